@@ -1,0 +1,16 @@
+pub mod Views
+pub mod Moves
+pub mod Turns
+pub mod Groups
+pub mod Ways
+pub mod Counts
+pub mod Joins
+pub mod Chains
+pub mod Grown
+pub mod Points
+pub mod Judged
+pub mod Telling
+pub mod Apart
+pub mod Answering
+pub mod Verdicts
+pub mod Laws

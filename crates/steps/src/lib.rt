@@ -1,0 +1,7 @@
+// Kinds of step: the trait that every kind implements, and the kind of phases.
+mod kind;
+mod phases;
+
+pub use kind::Step;
+pub use phases::Phase;
+pub use phases::PhaseStep;
