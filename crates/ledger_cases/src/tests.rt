@@ -10,7 +10,7 @@ use steps::Phase;
 use steps::PhaseStep;
 
 // The number and the points of a refusal, zeros where there is none.
-fn refusal(r: Result<(), Fault>) -> (u8, usize, usize) {
+pub(crate) fn refusal(r: Result<(), Fault>) -> (u8, usize, usize) {
     match r {
         Ok(()) => (0, 0, 0),
         Err(fault) => {

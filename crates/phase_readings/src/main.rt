@@ -1,9 +1,11 @@
 // Enters phase readings between the outputs of a rig, and prints what came of each and how every output stands to the first.
 ghost use mathlib.Core.Path.{_≡_};
 ghost use Rattle.ledger.specs.Tells.{contents};
-ghost use Rattle.phase_readings.specs.Outcomes.{Entered};
+ghost use Rattle.entries.specs.Outcomes.{Entered};
+ghost use Rattle.phase_readings.specs.Readings.{stated};
+ghost use Rattle.steps.specs.Phases.{phases, flips};
+use entries::Outcome;
 use ledger::Cell;
-use ledger::Fault;
 use ledger::Ledger;
 use std::alloc::AllocError;
 use std::alloc::Global;
@@ -59,14 +61,6 @@ fn readings() -> [Reading; 10] {
     ]
 }
 
-// What came of a reading.
-#[derive(Clone, Copy)]
-enum Outcome {
-    Noted,
-    Known,
-    Refused(Fault),
-}
-
 // Memory for a ledger of all the outputs.
 fn memory(heap: Global) -> Result<Vec<Cell<Phase>>, AllocError> {
     let mut cells = Vec::new(heap);
@@ -78,18 +72,9 @@ fn memory(heap: Global) -> Result<Vec<Cell<Phase>>, AllocError> {
 
 // Enters a reading, which is known where earlier ones say the same.
 fn enter(ledger: &mut Ledger<Phase>, reading: Reading) -> Outcome
-    ensures { λ r. ⌜ Entered (contents (now (ledger .entry))) reading r (contents (now (ledger .exit))) ⌝ }
+    ensures { λ r. ⌜ Entered phases flips (contents (now (ledger .entry))) (stated reading) r (contents (now (ledger .exit))) ⌝ }
 {
-    // only whether they are joined matters here, not how
-    let mut step = Phase::Same;
-    let joined = ledger.ask(reading.output, reading.against, &mut step);
-    match ledger.tie(reading.output, reading.against, &reading.phase) {
-        Ok(()) => match joined {
-            Ok(true) => Outcome::Known,
-            _ => Outcome::Noted,
-        },
-        Err(fault) => Outcome::Refused(fault),
-    }
+    entries::enter(ledger, reading.output, reading.against, &reading.phase)
 }
 
 fn name(output: usize) -> &'static str {

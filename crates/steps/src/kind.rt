@@ -2,6 +2,9 @@
 ghost use mathlib.Core.Path.{_≡_};
 ghost use Rattle.steps.specs.Kind.{Kind, Lawful, Commutes, Composed, Decides};
 
+// The sizes of two steps that compose add up to no more than this.
+pub const SIZE_LIMIT: u32 = 67108864;
+
 pub trait Step: Sized + Drop {
     // the group, the sizes of its elements, and the largest size of a single tie
     ghost kind: { Kind };

@@ -2,6 +2,7 @@
 mod kind;
 mod phases;
 
+pub use kind::SIZE_LIMIT;
 pub use kind::Step;
 pub use phases::Phase;
 pub use phases::PhaseStep;

@@ -1,0 +1,11 @@
+pub mod Laws
+pub mod Coprime
+pub mod Primes
+pub mod Products
+pub mod Multiplicities
+pub mod Exponents
+pub mod Sizes
+pub mod Lowest
+pub mod Naturals
+pub mod Measures
+pub mod Norms

@@ -1,0 +1,4 @@
+pub mod Listed
+pub mod Factors
+pub mod Rates
+pub mod Calls
