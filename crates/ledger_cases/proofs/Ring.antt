@@ -17,7 +17,7 @@ use Rattle.fractions.proofs.Laws.{same-refl, same-sym, same-trans, mul-same, as
 use Rattle.rates.specs.Rates.{rates, worth}
 use Rattle.rates.specs.declared.rate.RateStep.{RateStep}
 use Rattle.ledger_cases.specs.Rings.{Small, Closes, LastOfThree}
-use Rattle.ledger_cases.proofs.Answered.{point-made, few, tie-made, clash-made, large-made, no-point-made}
+use Rattle.ledger_cases.proofs.Answered.{tie-made, clash-made, large-made, no-point-made, three-made, three-few}
 
 module _ (f g h : Fraction) where
   abbrev pub first : Tie rates
@@ -134,16 +134,11 @@ module _ (f g h : Fraction) where
 
     module _ (r1 r2 r3 : Result ℕ Fault) (w : Right rates worth cells 0 [] (pointed r1 ∷ (pointed r2 ∷ (pointed r3 ∷ conversions)))) where
       with-room : 3 ≤ cells → Right rates worth cells 3 [] conversions
-      with-room room =
-          let w1 = subst (λ (n : ℕ). Right rates worth cells n [] (pointed r2 ∷ (pointed r3 ∷ conversions))) (point-made cells 0 r1 (w .0) (omega arith)) (w .1) in
-          let w2 = subst (λ (n : ℕ). Right rates worth cells n [] (pointed r3 ∷ conversions)) (point-made cells 1 r2 (w1 .0) (omega arith)) (w1 .1) in
-          subst (λ (n : ℕ). Right rates worth cells n [] conversions) (point-made cells 2 r3 (w2 .0) (omega arith)) (w2 .1)
+      with-room = three-made rates worth cells r1 r2 r3 conversions w
 
       no-third-point : cells < 3 → r6 ≡ Err (NoPoint 2 0)
       no-third-point short =
-          let n1 = few cells 0 r1 (w .0) (omega arith) in
-          let n2 = few cells (more 0 r1) r2 (w .1 .0) n1 in
-          let n3 = few cells (more (more 0 r1) r2) r3 (w .1 .1 .0) n2 in
+          let n = three-few rates worth cells r1 r2 r3 conversions w short in
           no-point-made rates (more (more (more 0 r1) r2) r3) third r6 (w .1 .1 .1 .2 .2 .0) (λ both. let l = both .0 in omega arith)
 
       pub last-of-three : LastOfThree cells f g h r6

@@ -14,7 +14,7 @@ use Rattle.ledger.specs.declared.faults.Fault.the-variants.{NoPoint, Contradict
 use Rattle.ledger.specs.Ties.{Tie, tied, Satisfies}
 use Rattle.ledger.specs.Calls.{more}
 use Rattle.ledger.specs.Runs.{Event, pointed, tying, Right}
-use Rattle.ledger_cases.proofs.Answered.{point-made, few, tie-made, clash-made, no-point-made}
+use Rattle.ledger_cases.proofs.Answered.{tie-made, clash-made, no-point-made, three-made, three-few}
 
 turned : (x : Bool) → x ≡ not x → ⊥
 turned true e = let z : _≡_ {A = ℕ} 0 1 = cc in omega arith
@@ -46,14 +46,9 @@ module _ (cells : ℕ) (r4 r5 r6 : Result (Unit {0}) Fault) where
 
   module _ (r1 r2 r3 : Result ℕ Fault) (h : Right phases flips cells 0 [] (pointed r1 ∷ (pointed r2 ∷ (pointed r3 ∷ readings)))) where
     pub contradicts : 3 ≤ cells → r6 ≡ Err (Contradiction 0 2)
-    contradicts room =
-        let h1 = subst (λ (n : ℕ). Right phases flips cells n [] (pointed r2 ∷ (pointed r3 ∷ readings))) (point-made cells 0 r1 (h .0) (omega arith)) (h .1) in
-        let h2 = subst (λ (n : ℕ). Right phases flips cells n [] (pointed r3 ∷ readings)) (point-made cells 1 r2 (h1 .0) (omega arith)) (h1 .1) in
-        last-refused (subst (λ (n : ℕ). Right phases flips cells n [] readings) (point-made cells 2 r3 (h2 .0) (omega arith)) (h2 .1))
+    contradicts room = last-refused (three-made phases flips cells r1 r2 r3 readings h room)
 
     pub no-third-point : cells < 3 → r6 ≡ Err (NoPoint 0 2)
     no-third-point short =
-        let n1 = few cells 0 r1 (h .0) (omega arith) in
-        let n2 = few cells (more 0 r1) r2 (h .1 .0) n1 in
-        let n3 = few cells (more (more 0 r1) r2) r3 (h .1 .1 .0) n2 in
+        let n = three-few phases flips cells r1 r2 r3 readings h short in
         no-point-made phases (more (more (more 0 r1) r2) r3) third r6 (h .1 .1 .1 .2 .2 .0) (λ both. let l = both .1 in omega arith)

@@ -1,6 +1,6 @@
 -- What the loops over exponents have done after i turns. Assumes nothing.
 use mathlib.Core.List.{List, [], _∷_, map}
-use mathlib.Core.Path.{_≡_, refl, sym, ap, ap₂, _∙_}
+use mathlib.Core.Path.{_≡_, refl, sym, ap, ap₂, _∙_, subst}
 use Prim.Native.Nat.{ℕ, zero, suc, _+_, _<_}
 use native.Mathlib.Omega.{arith}
 use native.Mathlib.Numerals.{add-one}
@@ -41,57 +41,28 @@ module _ {A B : Type 0} (f : A → B → A) where
   zipTo-all (suc n) (x ∷ xs) [] h k = absurd (omega arith)
   zipTo-all (suc n) (x ∷ xs) (y ∷ ys) h k = ap (λ (zs : List A). f x y ∷ zs) (zipTo-all n xs ys (omega arith) (omega arith))
 
--- the first i places changed by f
-abbrev pub mapTo : {A : Type 0} → (A → A) → ℕ → List A → List A
-mapTo f zero xs = xs
-mapTo f (suc i) [] = []
-mapTo f (suc i) (x ∷ xs) = f x ∷ mapTo f i xs
-
-module _ {A : Type 0} (f : A → A) where
-  getD-mapTo : (i : ℕ) (xs : List A) (d : A) → getD (mapTo f i xs) i d ≡ getD xs i d
-  getD-mapTo zero xs d = refl
-  getD-mapTo (suc i) [] d = refl
-  getD-mapTo (suc i) (x ∷ xs) d = getD-mapTo i xs d
-
-  set-mapTo : (i : ℕ) (xs : List A) (d : A) → i < length xs → set (mapTo f i xs) i (f (getD xs i d)) ≡ mapTo f (suc i) xs
-  set-mapTo i [] d h = absurd (omega arith)
-  set-mapTo zero (x ∷ xs) d h = refl
-  set-mapTo (suc i) (x ∷ xs) d h = ap (λ (zs : List A). f x ∷ zs) (set-mapTo i xs d (omega arith))
-
-  mapTo-more : (xs : List A) (i : ℕ) (d : A) → i < length xs → set (mapTo f i xs) i (f (getD xs i d)) ≡ mapTo f (i + 1) xs
-  mapTo-more xs i d h = set-mapTo i xs d h ∙ ap (λ (n : ℕ). mapTo f n xs) (sym (add-one i))
-
-  pub mapTo-all : (n : ℕ) (xs : List A) → length xs ≡ n → mapTo f n xs ≡ map f xs
-  mapTo-all zero [] h = refl
-  mapTo-all zero (x ∷ xs) h = absurd (omega arith)
-  mapTo-all (suc n) [] h = refl
-  mapTo-all (suc n) (x ∷ xs) h = ap (λ (zs : List A). f x ∷ zs) (mapTo-all n xs (omega arith))
+-- what one list gives, joined with itself
+pub zip-self : {A B : Type 0} (f : A → B) (xs : List A) → zipWith (λ (x y : A). f x) xs xs ≡ map f xs
+zip-self f [] = refl
+zip-self f (x ∷ xs) = ap (λ (zs : List _). f x ∷ zs) (zip-self f xs)
 
 -- a 32-bit number that is stored and read again
 abbrev stored : ℤ → ℤ
 stored z = toZ w32 (ofZ w32 z)
 
 -- a turn of a loop that joins two lists place by place
-module _ (f : ℤ → ℤ → ℤ) (xs ys zs : List ℤ) (i : ℕ) (inv : zs ≡ zipTo f i xs ys) (fz : SFits w32 (getD zs i (pos 0))) (fy : SFits w32 (getD ys i (pos 0))) where
-  pub zip-left : stored (getD zs i (pos 0)) ≡ getD xs i (pos 0)
-  zip-left = toZ-ofZ w32 (getD zs i (pos 0)) fz ∙ ap (λ (z : List ℤ). getD z i (pos 0)) inv ∙ getD-zipTo f i xs ys (pos 0)
+module _ (f : ℤ → ℤ → ℤ) (xs ys zs : List ℤ) (i : ℕ) (inv : zs ≡ zipTo f i xs ys) (fz : SFits w32 (getD zs i (pos 0))) where
+  same-place : getD zs i (pos 0) ≡ getD xs i (pos 0)
+  same-place = ap (λ (z : List ℤ). getD z i (pos 0)) inv ∙ getD-zipTo f i xs ys (pos 0)
 
-  pub zip-right : stored (getD ys i (pos 0)) ≡ getD ys i (pos 0)
-  zip-right = toZ-ofZ w32 (getD ys i (pos 0)) fy
+  pub left-read : stored (getD zs i (pos 0)) ≡ getD xs i (pos 0)
+  left-read = toZ-ofZ w32 (getD zs i (pos 0)) fz ∙ same-place
 
-  pub zip-turn : (r : ℤ) → SFits w32 r → r ≡ f (stored (getD zs i (pos 0))) (stored (getD ys i (pos 0))) → i < length xs → i < length ys → set zs i (stored r) ≡ zipTo f (i + 1) xs ys
-  zip-turn r fr e h k =
-      ap (set zs i) (toZ-ofZ w32 r fr ∙ e ∙ ap₂ f zip-left zip-right)
+  pub left-fits : SFits w32 (getD xs i (pos 0))
+  left-fits = subst (SFits w32) same-place fz
+
+  pub zip-turn : SFits w32 (getD ys i (pos 0)) → (r : ℤ) → SFits w32 r → r ≡ f (stored (getD zs i (pos 0))) (stored (getD ys i (pos 0))) → i < length xs → i < length ys → set zs i (stored r) ≡ zipTo f (i + 1) xs ys
+  zip-turn fy r fr e h k =
+      ap (set zs i) (toZ-ofZ w32 r fr ∙ e ∙ ap₂ f left-read (toZ-ofZ w32 (getD ys i (pos 0)) fy))
       ∙ ap (λ (z : List ℤ). set z i (f (getD xs i (pos 0)) (getD ys i (pos 0)))) inv
       ∙ zipTo-more f xs ys i (pos 0) (pos 0) h k
-
--- a turn of a loop that changes one
-module _ (f : ℤ → ℤ) (xs zs : List ℤ) (i : ℕ) (inv : zs ≡ mapTo f i xs) (fz : SFits w32 (getD zs i (pos 0))) where
-  pub map-read : stored (getD zs i (pos 0)) ≡ getD xs i (pos 0)
-  map-read = toZ-ofZ w32 (getD zs i (pos 0)) fz ∙ ap (λ (z : List ℤ). getD z i (pos 0)) inv ∙ getD-mapTo f i xs (pos 0)
-
-  pub map-turn : (r : ℤ) → SFits w32 r → r ≡ f (stored (getD zs i (pos 0))) → i < length xs → set zs i (stored r) ≡ mapTo f (i + 1) xs
-  map-turn r fr e h =
-      ap (set zs i) (toZ-ofZ w32 r fr ∙ e ∙ ap f map-read)
-      ∙ ap (λ (z : List ℤ). set z i (f (getD xs i (pos 0)))) inv
-      ∙ mapTo-more f xs i (pos 0) h
