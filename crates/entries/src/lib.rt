@@ -1,4 +1,6 @@
 // Entering statements in a ledger: each is noted, known already, or refused.
+#![tactic(auto)]
+
 ghost use Rattle.ledger.specs.Ties.{tied};
 ghost use Rattle.ledger.specs.Tells.{contents};
 ghost use Rattle.entries.specs.Outcomes.{Joined, Entered};
@@ -16,7 +18,7 @@ pub enum Outcome {
 
 // Whether earlier statements join a and b.
 fn joined<S: Step>(ledger: &Ledger<S>, a: usize, b: usize) -> bool
-    ensures { Joined kind meaning (contents ledger.now) a b result }
+    ensures { Joined S.kind S.meaning (contents ledger.now) a b result }
 {
     // only whether they are joined matters here, not how
     let mut step = S::unit();
@@ -28,7 +30,7 @@ fn joined<S: Step>(ledger: &Ledger<S>, a: usize, b: usize) -> bool
 
 // Enters that the value at a is g times the value at b, which is known where earlier statements join a and b.
 pub fn enter<S: Step>(ledger: &mut Ledger<S>, a: usize, b: usize, g: &S) -> Outcome
-    ensures { Entered kind meaning (contents ledger.old) (tied kind a b (meaning g.now)) result (contents ledger.new) }
+    ensures { Entered S.kind S.meaning (contents ledger.old) (tied S.kind a b (S.meaning g.now)) result (contents ledger.new) }
 {
     let known = joined(ledger, a, b);
     match ledger.tie(a, b, g) {

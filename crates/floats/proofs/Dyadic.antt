@@ -1,6 +1,6 @@
 -- Whole numbers over powers of two are floats exactly. Assumes nothing.
-use Rattle.std.proofs.Common.{◌≡◌, ℕ, zero, suc, ◌+◌, ◌-◌, ◌*◌, ◌^◌, ◌<◌, ◌≤◌, Bool, true, false, cond, not, ◌&&◌, eqb, ℤ, pos, negsuc, nat_abs, sym, refl, ap, ◌∙◌, subst, lt_of_lt_of_le, mul_assoc, mul_comm, mul-pos, zero-mul, mul-one, arith, pow_pos, pow_mono, pow-add, shl_lt}
-use lib.Ieee.{Float, Format, nan, inf, fin, up, down, unlike, round, div, of_int, binary64}
+use Rattle.std.proofs.Common.{◌≡◌, ℕ, zero, suc, ◌+◌, ◌-◌, ◌*◌, ◌^◌, ◌<◌, ◌≤◌, Bool, true, false, cond, eqb, ℤ, pos, negsuc, nat_abs, sym, refl, ap, ◌∙◌, lt_of_lt_of_le, mul_assoc, mul_comm, mul-pos, zero-mul, mul-one, arith, pow_pos, pow_mono, pow-add, shl_lt}
+use lib.Ieee.{Float, nan, inf, fin, up, down, unlike, round, div, of_int, binary64}
 use lib.Ieee.Fits.{down_pos}
 use lib.Ieee.Digits.{back}
 use lib.Ieee.Exact.{HasValue, round_exact}

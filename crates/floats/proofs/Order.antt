@@ -1,6 +1,6 @@
 -- The order of floats: transitive, total but for not-a-numbers; least and most of two. Assumes nothing.
-use Rattle.std.proofs.Common.{◌≡◌, ℕ, zero, suc, ◌+◌, ◌*◌, ◌<◌, ◌≤◌, Bool, true, false, cond, not, ◌&&◌, ◌||◌, T, eqb, ltb, leb, ℤ, sym, refl, ap, ◌∙◌, mul-pos, zero-mul, arith}
-use lib.Ieee.{Float, nan, inf, fin, up, down, below, level, lt, eq, le, is_nan}
+use Rattle.std.proofs.Common.{◌≡◌, ℕ, zero, suc, ◌*◌, ◌<◌, ◌≤◌, Bool, true, false, cond, not, ◌||◌, T, sym, refl, ap, ◌∙◌, mul-pos, zero-mul, arith}
+use lib.Ieee.{Float, nan, inf, fin, up, down, below, level, le, is_nan}
 use lib.Ieee.Fits.{down_pos}
 use lib.Ieee.Positive.{through}
 use Rattle.std.proofs.lemmas.Bool.Decides.{nat_tests}

@@ -1,11 +1,11 @@
 -- Bit patterns of proper floats. Assumes nothing.
-use Rattle.std.proofs.Common.{◌≡◌, ℕ, zero, suc, ◌+◌, ◌-◌, ◌*◌, ◌/◌, ◌^◌, ◌<◌, Bool, true, false, cond, not, ◌&&◌, T, eqb, ℤ, sym, refl, ap, ◌∙◌, zero-mul, arith}
+use Rattle.std.proofs.Common.{◌≡◌, ℕ, zero, suc, ◌+◌, ◌-◌, ◌*◌, ◌/◌, ◌^◌, ◌<◌, true, false, not, T, ℤ, sym, refl, ap, ◌∙◌, zero-mul, arith}
 use native.Mathlib.Nat.{zero-div}
 use lib.Ieee.{Float, nan, inf, fin, up, down, low, size, is_nan, binary64, of_bits, to_bits}
 use lib.Ieee.Bits.{to_bits-of_bits}
 use Rattle.std.proofs.lemmas.Bool.Decides.{nat_tests}
 use Rattle.floats.specs.Floats.{proper}
-use Rattle.floats.proofs.Order.{no, not_nan}
+use Rattle.floats.proofs.Order.{not_nan}
 
 -- -0 is not proper
 minus_zero : proper (of_bits binary64 9223372036854775808) ≡ false

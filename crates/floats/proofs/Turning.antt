@@ -1,11 +1,10 @@
 -- Whole numbers turned real keep their order, and are proper floats. Assumes nothing.
-use Rattle.std.proofs.Common.{◌≡◌, ℕ, zero, suc, ◌+◌, ◌*◌, ◌^◌, ◌<◌, ◌≤◌, Bool, true, false, cond, not, ◌&&◌, ◌||◌, T, eqb, ltb, leb, ℤ, pos, negsuc, sym, refl, ap, ◌∙◌, one-mul, zero-mul, arith}
-use lib.Signed.{le_z, lt_z}
-use lib.Ieee.{Float, Format, nan, inf, fin, up, down, low, prec, emax, odd, units, round, neg, le, of_int, is_nan, binary64}
+use Rattle.std.proofs.Common.{◌≡◌, ℕ, zero, suc, ◌+◌, ◌*◌, ◌^◌, ◌≤◌, Bool, true, false, cond, not, ltb, ℤ, pos, negsuc, sym, refl, ap, ◌∙◌, one-mul, zero-mul, arith}
+use lib.Signed.{le_z}
+use lib.Ieee.{Float, Format, nan, inf, fin, up, down, low, prec, emax, odd, units, round, neg, le, of_int, binary64}
 use lib.Ieee.Fits.{down_pos}
 use lib.Ieee.Order.{round_mono}
 use Rattle.std.proofs.lemmas.Bool.Decides.{nat_tests}
-use Rattle.std.proofs.lemmas.Int.{ints}
 use Rattle.floats.specs.Floats.{proper}
 use Rattle.floats.proofs.Order.{no, pos_le, le_neg, le_across, of_T}
 

@@ -8,14 +8,14 @@ use Rattle.std.specs.Int.{int_min}
 use Rattle.std.specs.List.{AllZip}
 use Rattle.std.proofs.lemmas.Int.{clamps}
 use Rattle.fractions.specs.Fractions.{Fraction, mul, inv, Natural}
-use Rattle.fractions.specs.Least.{Measure}
+use Rattle.fractions.specs.Least.{Measures, Measure}
 use Rattle.fractions.specs.Powers.{product, positive, product_pos, fraction}
 use Rattle.fractions.specs.Exponents.{zip_with, minima}
 use Rattle.fractions.proofs.Coprime.{Coprime, cop_sym, cop_pow}
 use Rattle.fractions.proofs.Primes.{Primes}
 use Rattle.fractions.proofs.Products.{product_add, product_cop}
 use Rattle.fractions.proofs.Exponents.{length-zip, length-ups, length-downs}
-use Rattle.fractions.proofs.Naturals.{natural_of, natural_out, natural_divides}
+use Rattle.fractions.proofs.Naturals.{natural_of, natural_out, natural_divides, all_two, all_first, all_second}
 
 ruleset ac = (mul_assoc, mul_comm, mul_left_comm)
 
@@ -171,13 +171,15 @@ module _ (ps : List ℕ) (t : T (positive ps)) (b : Primes ps) (es fs : List ℤ
       let hm : length m ≡ n = length-zip int_min es fs n h k in
       let left : Below m es = below_left n es fs h k in
       let right : Below m fs = below_right n es fs h k in
+      let first : Fraction = fraction ps t es in
+      let second : Fraction = fraction ps t fs in
       record {
-        common = (multiple ps t b m hm es h left, (multiple ps t b m hm fs k right, tt));
+        common = all_two (Measures (fraction ps t m)) first second (multiple ps t b m hm es h left) (multiple ps t b m hm fs k right);
         greatest = λ y a.
             let x : Fraction = inv y in
             let d : ℕ = x.den * product ps (map down m) in
             let c : ℕ = x.num * product ps (map up m) in
-            let both : d ∣ c * product ps (zip_with min (gaps es m) (gaps fs m)) = product_min ps b (gaps es m) (gaps fs m) (length-zip gap es m n h hm) (length-zip gap fs m n k hm) d c (divided ps t b m hm x es h left a.0) (divided ps t b m hm x fs k right a.1.0) in
+            let both : d ∣ c * product ps (zip_with min (gaps es m) (gaps fs m)) = product_min ps b (gaps es m) (gaps fs m) (length-zip gap es m n h hm) (length-zip gap fs m n k hm) d c (divided ps t b m hm x es h left (all_first (Measures y) first second a)) (divided ps t b m hm x fs k right (all_second (Measures y) first second a)) in
             let none : product ps (zip_with min (gaps es m) (gaps fs m)) ≡ 1 = ap (product ps) (least_gaps es fs m) ∙ self_gaps ps m in
             natural_divides (mul x (fraction ps t m)) (subst (λ (y : ℕ). d ∣ y) (ap (λ (y : ℕ). c * y) none ∙ mul-one c) both);
       }

@@ -2,8 +2,8 @@
 use Rattle.std.proofs.Common.{◌≡◌, ℕ, ◌*◌, ◌/◌, ◌≤◌, List, [], ◌∷◌, ◌++◌, sym, ap, ◌∙◌, subst, ap₂, mul-le-mul_right, mul_assoc, mul_comm, one-mul, mul-one, mul_left_comm, arith}
 use Prim.Native.Nat.{◌∣◌}
 use native.Mathlib.Nat.{mul-mul-mul_comm, eq_of_mul-eq-mul_left, div-mul_cancel}
-use Rattle.std.specs.List.{AllByRecursion as All}
-use Rattle.std.proofs.ByRecursion.{All-push, All-weaker}
+use Rattle.std.specs.List.{All}
+use Rattle.std.proofs.lemmas.List.Elements.{All-nil, All-cons, All-head, All-tail, All-push, All-weaker}
 use Rattle.fractions.specs.Fractions.{Fraction, same, AtLeast, mul, inv, Natural}
 use Rattle.fractions.specs.Least.{Least, Measures, Measure}
 use Rattle.fractions.proofs.Products.{left_pos}
@@ -48,17 +48,28 @@ through x z w = crossed w.den z.num z.den x.num w.num x.den
     crossed : (a b c d e f : ℕ) → ((a * b) * (c * d)) * (e * f) ≡ (a * d) * ((e * c) * (b * f))
     crossed a b c d e f = simp ac
 
+-- what holds of two, of the first, of the second
+module _ {X : Type 0} (P : X → Type 0) (x y : X) where
+  pub all_two : P x → P y → All P (x ∷ y ∷ [])
+  all_two p q = All-cons P x (y ∷ []) p (All-cons P y [] q (All-nil P))
+
+  pub all_first : All P (x ∷ y ∷ []) → P x
+  all_first a = All-head P x (y ∷ []) a
+
+  pub all_second : All P (x ∷ y ∷ []) → P y
+  all_second a = All-head P y [] (All-tail P x (y ∷ []) a)
+
 all_front : {X : Type 0} (P : X → Type 0) (xs ys : List X) → All P (xs ++ ys) → All P xs
-all_front P [] ys a = tt
-all_front P (x ∷ xs) ys a = (a.0, all_front P xs ys a.1)
+all_front P [] ys a = All-nil P
+all_front P (x ∷ xs) ys a = All-cons P x xs (All-head P x (xs ++ ys) a) (all_front P xs ys (All-tail P x (xs ++ ys) a))
 
 all_last : {X : Type 0} (P : X → Type 0) (xs : List X) (y : X) → All P (xs ++ y ∷ []) → P y
-all_last P [] y a = a.0
-all_last P (x ∷ xs) y a = all_last P xs y a.1
+all_last P [] y a = All-head P y [] a
+all_last P (x ∷ xs) y a = all_last P xs y (All-tail P x (xs ++ y ∷ []) a)
 
 -- a fraction is its own measure
 pub measure_one : (x : Fraction) → Measure (x ∷ []) x
-measure_one x = record { common = (natural_of (mul (inv x) x) 1 (mul_comm x.den x.num ∙ sym (one-mul (x.num * x.den))), tt); greatest = λ k a. a.0 }
+measure_one x = record { common = All-cons (Measures x) x [] (natural_of (mul (inv x) x) 1 (mul_comm x.den x.num ∙ sym (one-mul (x.num * x.den)))) (All-nil (Measures x)); greatest = λ k a. All-head (Measures k) x [] a }
 
 -- the measure of a measure and one fraction more
 pub measure_more : (xs : List Fraction) (y z w : Fraction) → Measure xs z → Measure (z ∷ y ∷ []) w → Measure (xs ++ y ∷ []) w
@@ -66,10 +77,10 @@ measure_more xs y z w m n =
     record {
       common = All-push (Measures w) xs y
           (All-weaker (Measures z) (Measures w)
-          (λ x h. natural_same (mul (mul (inv w) z) (mul (inv z) x)) (mul (inv w) x) (through x z w) (natural_mul (mul (inv w) z) (mul (inv z) x) n.common.0 h))
+          (λ x h. natural_same (mul (mul (inv w) z) (mul (inv z) x)) (mul (inv w) x) (through x z w) (natural_mul (mul (inv w) z) (mul (inv z) x) (all_first (Measures w) z y n.common) h))
           xs m.common)
-          n.common.1.0;
-      greatest = λ k a. n.greatest k (m.greatest k (all_front (Measures k) xs (y ∷ []) a), (all_last (Measures k) xs y a, tt));
+          (all_second (Measures w) z y n.common);
+      greatest = λ k a. n.greatest k (all_two (Measures k) z y (m.greatest k (all_front (Measures k) xs (y ∷ []) a)) (all_last (Measures k) xs y a));
     }
 
 -- the inverse of the measure is the least factor

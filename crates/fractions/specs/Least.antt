@@ -1,6 +1,5 @@
 -- The least factor that makes fractions natural, and their greatest common measure. Assumes nothing.
-use Rattle.std.specs.Prelude.{List}
-use Rattle.std.specs.List.{AllByRecursion as All}
+use Rattle.std.specs.Prelude.{List, All}
 use Rattle.fractions.specs.Fractions.{Fraction, AtLeast, mul, inv, Natural}
 
 -- t times each of the fractions is natural

@@ -15,7 +15,7 @@ impl<S: Step> Cell<S> {
     // A cell to lend to a ledger, which overwrites it.
     pub fn blank() -> Cell<S>
         ensures root { result.root ≡ 0 }
-        ensures step { kind.same (meaning result.step) kind.one }
+        ensures step { S.kind.same (S.meaning result.step) S.kind.one }
     {
         Cell {
             root: 0,
@@ -25,7 +25,7 @@ impl<S: Step> Cell<S> {
 
     // Moves the point to the root `to` along `by`, if it hangs on `from` and its step is not too large for that.
     pub(crate) fn move_from(&mut self, from: usize, to: usize, by: &S)
-        ensures { CellMoved kind meaning self.old self.new from to (meaning by.now) }
+        ensures { CellMoved S.kind S.meaning self.old self.new from to (S.meaning by.now) }
     {
         if self.root == from {
             if let Some(step) = self.step.compose(by) {
@@ -39,7 +39,7 @@ impl<S: Step> Cell<S> {
 pub(crate) fn way<S: Step>(cells: &[Cell<S>], a: usize, b: usize) -> Option<S>
     requires left { a < length cells.now }
     requires right { b < length cells.now }
-    ensures { Composed kind meaning (steps kind meaning cells.now a) (kind.inv (steps kind meaning cells.now b)) result }
+    ensures { Composed S.kind S.meaning (steps S.kind S.meaning cells.now a) (S.kind.inv (steps S.kind S.meaning cells.now b)) result }
 {
     let back = cells[b].step.inverse();
     cells[a].step.compose(&back)
@@ -49,7 +49,7 @@ pub(crate) fn way<S: Step>(cells: &[Cell<S>], a: usize, b: usize) -> Option<S>
 pub(crate) fn holds<S: Step>(cells: &[Cell<S>], a: usize, b: usize, g: &S) -> bool
     requires left { a < length cells.now }
     requires right { b < length cells.now }
-    ensures { kind.size (meaning g.now) + kind.size (steps kind meaning cells.now b) ≤ limit → Decides result (kind.same (steps kind meaning cells.now a) (kind.mul (meaning g.now) (steps kind meaning cells.now b))) }
+    ensures { S.kind.size (S.meaning g.now) + S.kind.size (steps S.kind S.meaning cells.now b) ≤ limit → Decides result (S.kind.same (steps S.kind S.meaning cells.now a) (S.kind.mul (S.meaning g.now) (steps S.kind S.meaning cells.now b))) }
 {
     match g.compose(&cells[b].step) {
         Some(step) => cells[a].step.equals(&step),
@@ -60,7 +60,7 @@ pub(crate) fn holds<S: Step>(cells: &[Cell<S>], a: usize, b: usize, g: &S) -> bo
 // The inverse of a's step after `step`; none where it would be too large.
 fn undone<S: Step>(cells: &[Cell<S>], a: usize, step: &S) -> Option<S>
     requires { a < length cells.now }
-    ensures { Composed kind meaning (kind.inv (steps kind meaning cells.now a)) (meaning step.now) result }
+    ensures { Composed S.kind S.meaning (S.kind.inv (steps S.kind S.meaning cells.now a)) (S.meaning step.now) result }
 {
     let back = cells[a].step.inverse();
     back.compose(step)
@@ -70,7 +70,7 @@ fn undone<S: Step>(cells: &[Cell<S>], a: usize, step: &S) -> Option<S>
 pub(crate) fn bridge<S: Step>(cells: &[Cell<S>], a: usize, b: usize, g: &S) -> Option<S>
     requires left { a < length cells.now }
     requires right { b < length cells.now }
-    ensures { kind.size (meaning g.now) + kind.size (steps kind meaning cells.now b) ≤ limit → Composed kind meaning (kind.inv (steps kind meaning cells.now a)) (kind.mul (meaning g.now) (steps kind meaning cells.now b)) result }
+    ensures { S.kind.size (S.meaning g.now) + S.kind.size (steps S.kind S.meaning cells.now b) ≤ limit → Composed S.kind S.meaning (S.kind.inv (steps S.kind S.meaning cells.now a)) (S.kind.mul (S.meaning g.now) (steps S.kind S.meaning cells.now b)) result }
 {
     match g.compose(&cells[b].step) {
         Some(step) => undone(cells, a, &step),

@@ -21,7 +21,7 @@ pub(crate) struct Forest<'a, S> {
 // Moves each point of the tree `from` to the root `to`, along `by`.
 fn relabel<S: Step>(cells: &mut [Cell<S>], len: usize, from: usize, to: usize, by: &S)
     requires { len ≤ length cells.old }
-    ensures { Movable kind len (roots cells.old) (steps kind meaning cells.old) from (meaning by.now) → Moved kind len (roots cells.old) (steps kind meaning cells.old) (roots cells.new) (steps kind meaning cells.new) from to (meaning by.now) }
+    ensures { Movable S.kind len (roots cells.old) (steps S.kind S.meaning cells.old) from (S.meaning by.now) → Moved S.kind len (roots cells.old) (steps S.kind S.meaning cells.old) (roots cells.new) (steps S.kind S.meaning cells.new) from to (S.meaning by.now) }
 {
     for i in 0..len {
         cells[i].move_from(from, to, by);
@@ -33,8 +33,8 @@ fn join<S: Step>(cells: &mut [Cell<S>], len: usize, a: usize, b: usize, g: &S) -
     requires room { len ≤ length cells.old }
     requires left { a < len }
     requires right { b < len }
-    requires small { kind.size (meaning g.now) ≤ kind.most }
-    ensures { Tying kind meaning (holding cells.old len) (tied kind a b (meaning g.now)) result (holding cells.new len) }
+    requires small { S.kind.size (S.meaning g.now) ≤ S.kind.most }
+    ensures { Tying S.kind S.meaning (holding cells.old len) (tied S.kind a b (S.meaning g.now)) result (holding cells.new len) }
 {
     let from = cells[a].root;
     let to = cells[b].root;
@@ -56,7 +56,7 @@ fn join<S: Step>(cells: &mut [Cell<S>], len: usize, a: usize, b: usize, g: &S) -
 
 impl<'a, S: Step> Forest<'a, S> {
     pub(crate) fn point(&mut self) -> Result<usize, Fault>
-        ensures { Pointed kind meaning (planted self.old) result (planted self.new) }
+        ensures { Pointed S.kind S.meaning (planted self.old) result (planted self.new) }
     {
         let n = self.len;
         if n < self.cells.len() && n < MOST_POINTS {
@@ -73,7 +73,7 @@ impl<'a, S: Step> Forest<'a, S> {
 
     pub(crate) fn tie(&mut self, a: usize, b: usize, g: &S) -> Result<(), Fault>
         requires { self.old.len ≤ length self.old.cells.now }
-        ensures { Tying kind meaning (planted self.old) (tied kind a b (meaning g.now)) result (planted self.new) }
+        ensures { Tying S.kind S.meaning (planted self.old) (tied S.kind a b (S.meaning g.now)) result (planted self.new) }
     {
         let len = self.len;
         if a >= len || b >= len {
@@ -87,7 +87,7 @@ impl<'a, S: Step> Forest<'a, S> {
 
     pub(crate) fn ask(&self, a: usize, b: usize, out: &mut S) -> Result<bool, Fault>
         requires { self.now.len ≤ length self.now.cells.now }
-        ensures { Asking kind meaning (planted self.now) a b out.old result out.new (planted self.now) }
+        ensures { Asking S.kind S.meaning (planted self.now) a b out.old result out.new (planted self.now) }
     {
         if a >= self.len || b >= self.len {
             return Err(Fault::NoPoint(a, b));

@@ -1,4 +1,6 @@
 // A ledger of points that are tied by steps, for any kind of step.
+#![tactic(auto)]
+
 mod cells;
 mod faults;
 mod forest;

@@ -1,4 +1,6 @@
 // What callers of a ledger may count on, shown from the contracts alone.
+#![tactic(auto)]
+
 ghost use Rattle.std.specs.Prelude.{◌≡◌, ◌<◌, ◌≤◌, length, Err};
 ghost use Rattle.ledger.specs.declared.faults.Fault.TheVariants.{NoPoint, Contradiction};
 ghost use Rattle.ledger_cases.specs.Rings.{LastOfThree};

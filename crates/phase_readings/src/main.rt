@@ -1,4 +1,6 @@
 // Enters phase readings between the outputs of a rig, and prints what came of each and how every output stands to the first.
+#![tactic(auto)]
+
 ghost use Rattle.std.specs.Prelude.{◌≡◌};
 ghost use Rattle.ledger.specs.Tells.{contents};
 ghost use Rattle.entries.specs.Outcomes.{Entered};

@@ -1,4 +1,6 @@
 // Enters rate conversions between the signals of a rack, and prints what came of each, and then the rates of the signals.
+#![tactic(auto)]
+
 ghost use Rattle.std.specs.Prelude.{◌≡◌};
 ghost use Rattle.ledger.specs.Tells.{contents};
 ghost use Rattle.rate_rings.specs.Conversions.{Converted, Entering, Against};

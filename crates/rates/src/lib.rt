@@ -1,4 +1,6 @@
 // Rate steps: positive fractions, held as the exponents of listed primes.
+#![tactic(auto)]
+
 mod exponents;
 mod factors;
 mod primes;

@@ -1,5 +1,5 @@
 -- The order of bounds and of numbers; the lesser and the greater of two. Assumes nothing.
-use Rattle.std.proofs.Common.{◌≡◌, Bool, true, false, cond, ℤ, pos, negsuc, sym, refl, arith}
+use Rattle.std.proofs.Common.{◌≡◌, Bool, true, false, cond, ℤ, sym, refl, arith}
 use lib.Signed.{le_z, lt_z}
 use Rattle.std.specs.Int.{int_min, int_max}
 use Rattle.std.proofs.lemmas.Int.{ints}

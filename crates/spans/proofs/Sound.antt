@@ -1,8 +1,7 @@
 -- Combining and joining spans gives spans: low bounds that are low, high ones that are high, in order. Assumes nothing.
-use Rattle.std.proofs.Common.{◌≡◌, Bool, true, false, ℤ, ◌+ℤ◌, ◌-ℤ◌, ◌*ℤ◌, sym, refl, ◌∙◌, arith}
+use Rattle.std.proofs.Common.{◌≡◌, true, false, ℤ, ◌+ℤ◌, ◌-ℤ◌, ◌*ℤ◌, sym, refl, ◌∙◌, arith}
 use lib.Signed.{le_z}
-use lib.Ieee.{Float, inf, le, is_nan}
-use Rattle.std.specs.Int.{int_min, int_max}
+use lib.Ieee.{Float, inf, le}
 use Rattle.std.specs.Float.{float_min, float_max}
 use Rattle.std.proofs.lemmas.Int.{ints}
 use Rattle.floats.specs.Floats.{proper}
@@ -12,7 +11,7 @@ use Rattle.spans.specs.declared.bound.Bound.{Bound}
 use Rattle.spans.specs.declared.bound.Bound.TheVariants.{Bottom, At, Top}
 use Rattle.spans.specs.declared.operation.Operation.{Operation}
 use Rattle.spans.specs.declared.operation.Operation.TheVariants.{Sum, Difference, Product, Quotient, Minimum, Maximum}
-use Rattle.spans.specs.Bounds.{at_most, lesser, greater, is_low, is_high, low_bound, high_bound, by_number, as_real}
+use Rattle.spans.specs.Bounds.{at_most, lesser, greater, is_low, is_high, low_bound, by_number, as_real}
 use Rattle.spans.specs.Combining.{make_low, make_high, least_product, greatest_product, by_numbers, whole_low, whole_high, real_low, real_high}
 use Rattle.spans.proofs.Order.{bottom_least, top_greatest, bound_refl, bound_trans, lesser_kept, greater_kept, lesser_left, greater_left, lesser_mono, greater_mono, low_is_low, high_is_high, in_order, number_trans}
 use Rattle.spans.proofs.Products.{least_below, greatest_above}

@@ -3,7 +3,7 @@ use Rattle.std.specs.Prelude.{true, false, ℤ, ◌+ℤ◌, ◌-ℤ◌, ◌*ℤ�
 use Rattle.std.specs.Int.{int_min, int_max}
 use Rattle.std.specs.Float.{float_min, float_max, inf}
 use Rattle.spans.specs.declared.bound.Bound.{Bound}
-use Rattle.spans.specs.declared.bound.Bound.TheVariants.{Bottom, At, Top}
+use Rattle.spans.specs.declared.bound.Bound.TheVariants.{Bottom, Top}
 use Rattle.spans.specs.declared.operation.Operation.{Operation}
 use Rattle.spans.specs.declared.operation.Operation.TheVariants.{Sum, Difference, Product, Quotient, Minimum, Maximum}
 use Rattle.spans.specs.Bounds.{lesser, greater, low_bound, high_bound, by_number}

@@ -1,5 +1,5 @@
 -- Ranges: what spans say, as plain bounds; how they combine, join and lie in one another. Assumes nothing.
-use Rattle.std.specs.Prelude.{Bool, true, false, ◌&&◌, ℤ, pos, Float}
+use Rattle.std.specs.Prelude.{Bool, true, false, ◌&&◌, pos, Float}
 use Rattle.std.specs.Float.Ieee.{le, of_int}
 use Rattle.std.specs.Float.{float_min, float_max, binary64}
 use Rattle.floats.specs.Floats.{proper}

@@ -1,5 +1,5 @@
 -- The ranges of spans and of rows. Assumes nothing.
-use Rattle.std.specs.Prelude.{◌≡◌, ℕ, Bool, true, false, Option, MatchOption, from_bits}
+use Rattle.std.specs.Prelude.{◌≡◌, true, false, Option, MatchOption, from_bits}
 use Rattle.std.specs.Float.{binary64}
 use Rattle.spans.specs.declared.kind.Kind.{Kind}
 use Rattle.spans.specs.declared.kind.Kind.TheVariants as kind

@@ -1,4 +1,6 @@
 // Spans: from a low to a high bound, of whole numbers or of floats, and how operations combine them.
+#![tactic(auto)]
+
 mod bound;
 mod float;
 mod kind;

@@ -1,4 +1,6 @@
 // Kinds of step: the trait that every kind implements, and the kind of phases.
+#![tactic(auto)]
+
 mod kind;
 mod phases;
 

@@ -64,8 +64,8 @@ impl RealSpan {
         match operation {
             Operation::Sum | Operation::Difference | Operation::Product | Operation::Quotient =>
                 float::lowest(),
-            Operation::Minimum => self.low.min(other.low),
-            Operation::Maximum => self.low.max(other.low),
+            Operation::Minimum => float::lesser(self.low, other.low),
+            Operation::Maximum => float::greater(self.low, other.low),
         }
     }
 
@@ -75,8 +75,8 @@ impl RealSpan {
         match operation {
             Operation::Sum | Operation::Difference | Operation::Product | Operation::Quotient =>
                 float::highest(),
-            Operation::Minimum => self.high.min(other.high),
-            Operation::Maximum => self.high.max(other.high),
+            Operation::Minimum => float::lesser(self.high, other.high),
+            Operation::Maximum => float::greater(self.high, other.high),
         }
     }
 
@@ -93,8 +93,8 @@ impl RealSpan {
         ensures low { result.low ≡ float_min self.low other.low }
         ensures high { result.high ≡ float_max self.high other.high }
     {
-        let low = self.low.min(other.low);
-        let high = self.high.max(other.high);
+        let low = float::lesser(self.low, other.low);
+        let high = float::greater(self.high, other.high);
         RealSpan { low, high }
     }
 

@@ -12,8 +12,8 @@ loop-place-preserved c =
     let xs : List ℤ = c.args.exponents.now in
     let i : ℕ = c.loop-place.place in
     let f : SFits w32 (get_or xs i (pos 0)) = search rules in
-    let e = c.unsigned-abs.ensures.value ∙ ap nat_abs (to_z-of_z w32 (get_or xs i (pos 0)) f) in
-    let m : c.max-largest.result ≡ max c.loop-place.largest c.unsigned-abs.result = search rules in
+    let e = c.unsigned_abs.ensures.value ∙ ap nat_abs (to_z-of_z w32 (get_or xs i (pos 0)) f) in
+    let m : c.max-largest.result ≡ max c.loop-place.largest c.unsigned_abs.result = search rules in
     m ∙ ap₂ max c.loop-place.invariant e ∙ sym (norm_more xs i (omega arith))
 
 pub returns : goal.returns

@@ -6,32 +6,32 @@ use Rattle.rates.specs.Listed.{listed}
 use Rattle.rates.proofs.Ratios.{power_fails, turn, turn_fails, turns_all}
 use Rattle.rates.proofs.exponents.product.Goals as goal
 
-pub returns-in-err-power : goal.returns-in-err-power
-returns-in-err-power c =
+pub returns-in_err-power : goal.returns-in_err-power
+returns-in_err-power c =
     let es : List ℤ = c.args.exponents.now in
     let i : ℕ = c.loop-i.i in
     let f : SFits w32 (get_or es i (pos 0)) = search rules in
-    let h = power_fails es c.told-exponents i c.loop-i-test.true c.positive-part.result (c.positive-part.ensures ∙ ap up (to_z-of_z w32 (get_or es i (pos 0)) f)) (2 ^ 64) c.in-err-power.ensures in
-    rw c.from-residual.ensures (omega arith)
+    let h = power_fails es c.told-exponents i c.loop-i-test.true c.positive_part.result (c.positive_part.ensures ∙ ap up (to_z-of_z w32 (get_or es i (pos 0)) f)) (2 ^ 64) c.in_err-power.ensures in
+    rw c.from_residual.ensures (omega arith)
 
-pub returns-in-err-product : goal.returns-in-err-product
-returns-in-err-product c =
+pub returns-in_err-product : goal.returns-in_err-product
+returns-in_err-product c =
     let es : List ℤ = c.args.exponents.now in
     let i : ℕ = c.loop-i.i in
     let f : SFits w32 (get_or es i (pos 0)) = search rules in
-    let e : c.in-ok-power.power ≡ get_or listed i 0 ^ c.positive-part.result = c.in-ok-power.ensures.1 in
-    let h = turn_fails es c.told-exponents i c.loop-i-test.true c.positive-part.result (c.positive-part.ensures ∙ ap up (to_z-of_z w32 (get_or es i (pos 0)) f)) (2 ^ 64) c.loop-i.product c.loop-i.invariant (rw e at c.in-err-product.ensures) in
-    rw c.from-residual-in-err-product.ensures (omega arith)
+    let e : c.in_ok-power.power ≡ get_or listed i 0 ^ c.positive_part.result = c.in_ok-power.ensures.1 in
+    let h = turn_fails es c.told-exponents i c.loop-i-test.true c.positive_part.result (c.positive_part.ensures ∙ ap up (to_z-of_z w32 (get_or es i (pos 0)) f)) (2 ^ 64) c.loop-i.product c.loop-i.invariant (rw e at c.in_err-product.ensures) in
+    rw c.from_residual-in_err-product.ensures (omega arith)
 
 pub loop-i-preserved : goal.loop-i-preserved
 loop-i-preserved c =
     let es : List ℤ = c.args.exponents.now in
     let i : ℕ = c.loop-i.i in
     let f : SFits w32 (get_or es i (pos 0)) = search rules in
-    let e : c.in-ok-power.power ≡ get_or listed i 0 ^ c.positive-part.result = c.in-ok-power.ensures.1 in
-    c.in-ok-product.ensures.1
+    let e : c.in_ok-power.power ≡ get_or listed i 0 ^ c.positive_part.result = c.in_ok-power.ensures.1 in
+    c.in_ok-product.ensures.1
     ∙ ap (λ (q : ℕ). c.loop-i.product * q) e
-    ∙ turn es c.told-exponents i c.loop-i-test.true c.positive-part.result (c.positive-part.ensures ∙ ap up (to_z-of_z w32 (get_or es i (pos 0)) f)) (2 ^ 64) c.loop-i.product c.loop-i.invariant
+    ∙ turn es c.told-exponents i c.loop-i-test.true c.positive_part.result (c.positive_part.ensures ∙ ap up (to_z-of_z w32 (get_or es i (pos 0)) f)) (2 ^ 64) c.loop-i.product c.loop-i.invariant
 
 pub returns : goal.returns
 returns c =

@@ -7,14 +7,14 @@ use Rattle.rates.proofs.Rows.{Row, row_of}
 use Rattle.rates.proofs.Worth.{size_rate}
 use Rattle.rates.proofs.rate.RateStep.from_factor.Goals as goal
 
-pub invariant-of-result : goal.invariant-of-result
-invariant-of-result c =
+pub invariant_of-result : goal.invariant_of-result
+invariant_of-result c =
     let rows : List (List ℤ) = c.table-table.result.now in
     let n : ℕ = c.args.factor in
     let l : length rows ≡ largest_factor = c.table-table.ensures.rows in
     let r : Row n (get_or rows (n - 1) []) = row_of rows c.table-table.ensures.rule n [] (omega arith) (omega arith) in
     let s = r.small in
-    (omega arith, tt)
+    record { within = omega arith }
 
 pub returns : goal.returns
 returns c =

@@ -5,8 +5,8 @@ use Rattle.fractions.proofs.Norms.{norm_add}
 use Rattle.rates.proofs.Worth.{size_rate, rate_add}
 use Rattle.rates.proofs.rate.kind.RateStepStep.compose.Goals as goal
 
-pub overflow-add-size : goal.overflow-add-size
-overflow-add-size c =
+pub overflow_add-size : goal.overflow_add-size
+overflow_add-size c =
     let es : List ℤ = c.args.self.now.exponents in
     let fs : List ℤ = c.args.other.now.exponents in
     let x : c.size.result ≡ norm es = c.size.ensures ∙ size_rate es (search rules) in
@@ -23,15 +23,15 @@ sums-requires c =
     let y : c.size-2.result ≡ norm fs = c.size-2.ensures ∙ size_rate fs (search rules) in
     omega arith
 
-pub invariant-of-result : goal.invariant-of-result
-invariant-of-result c =
+pub invariant_of-result : goal.invariant_of-result
+invariant_of-result c =
     let es : List ℤ = c.args.self.now.exponents in
     let fs : List ℤ = c.args.other.now.exponents in
     let x : c.size.result ≡ norm es = c.size.ensures ∙ size_rate es (search rules) in
     let y : c.size-2.result ≡ norm fs = c.size-2.ensures ∙ size_rate fs (search rules) in
     let e : norm c.sums.result ≡ norm (added es fs) = ap norm c.sums.ensures in
     let h : norm (added es fs) ≤ norm es + norm fs = norm_add es fs in
-    (omega arith, tt)
+    record { within = omega arith }
 
 pub returns : goal.returns
 returns c =
