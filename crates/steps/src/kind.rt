@@ -22,6 +22,7 @@ pub trait Step: Sized + Drop {
     fn inverse(&self) -> Self
         ensures { kind.same (meaning result) (kind.inv (meaning self.now)) };
 
+    // Whether both mean the same, which `==` need not say of every kind.
     fn equals(&self, other: &Self) -> bool
         ensures { Decides result (kind.same (meaning self.now) (meaning other.now)) };
 

@@ -1,16 +1,29 @@
 // Phase steps: two signals have the same phase, or opposite ones.
-ghost use Rattle.steps.specs.Phases.{phases, flips};
+ghost use Rattle.std.specs.Prelude.{Some};
+ghost use Rattle.steps.specs.Phases.{phases, flips, words};
 ghost use Rattle.std.proofs.Common.{rules};
 
 use crate::kind::Step;
+use std::fmt;
 
 // The largest size of a tie: steps of phases have no other.
 const LARGEST: u32 = 0;
 
-#[derive(Clone, Copy)]
+#[derive(Clone, Copy, Debug, PartialEq, Eq, Hash)]
 pub enum Phase {
     Same,
     Opposite,
+}
+
+impl fmt::Display for Phase {
+    ghost output = { λ phase. Some (words phase) };
+
+    fn fmt<W: fmt::Write>(&self, f: &mut fmt::Formatter<W>) -> fmt::Result {
+        f.write_str(match self {
+            Self::Same => "in phase",
+            Self::Opposite => "opposite",
+        })
+    }
 }
 
 impl Step for Phase {
@@ -39,11 +52,7 @@ impl Step for Phase {
     }
 
     fn equals(&self, other: &Phase) -> bool {
-        match (*self, *other) {
-            (Phase::Same, Phase::Same) => true,
-            (Phase::Opposite, Phase::Opposite) => true,
-            _ => false,
-        }
+        self == other
     }
 
     fn size(&self) -> u32 {
