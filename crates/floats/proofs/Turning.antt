@@ -2,11 +2,12 @@
 use Rattle.std.proofs.Common.{◌≡◌, ℕ, zero, suc, ◌+◌, ◌*◌, ◌^◌, ◌≤◌, Bool, true, false, cond, not, ltb, ℤ, pos, negsuc, sym, refl, ap, ◌∙◌, one-mul, zero-mul, arith}
 use lib.Signed.{le_z}
 use lib.Ieee.{Float, Format, nan, inf, fin, up, down, low, prec, emax, odd, units, round, neg, le, of_int, binary64}
+use lib.Ieee.Bits.{is_true}
 use lib.Ieee.Fits.{down_pos}
 use lib.Ieee.Order.{round_mono}
 use Rattle.std.proofs.lemmas.Bool.Decides.{nat_tests}
 use Rattle.floats.specs.Floats.{proper}
-use Rattle.floats.proofs.Order.{no, pos_le, le_neg, le_across, of_T}
+use Rattle.floats.proofs.Order.{no, pos_le, le_neg, le_across}
 
 -- ---- the other sign
 odd_mirror : (d q k l : ℕ) → odd d true q k l ≡ neg (odd d false q k l)
@@ -51,36 +52,14 @@ round_plain f a b = units_plain f _ _
 -- ---- the order under the other sign
 le_mirror : (x y : Float) → plain x ≡ true → plain y ≡ true → le x y ≡ true → le (neg y) (neg x) ≡ true
 unfolding le neg
-le_mirror nan y p q h = no p
-le_mirror (inf true) y p q h = no p
-le_mirror (inf false) nan p q h = no q
-le_mirror (inf false) (inf true) p q h = no q
-le_mirror (inf false) (inf false) p q h = refl
-le_mirror (inf false) (fin t n d) p q h = no h
-le_mirror (fin true m e) y p q h = no p
-le_mirror (fin false m e) nan p q h = no q
-le_mirror (fin false m e) (inf true) p q h = no q
-le_mirror (fin false m e) (inf false) p q h = refl
-le_mirror (fin false m e) (fin true n d) p q h = no q
-le_mirror (fin false m e) (fin false n d) p q h = le_neg (n * up d) (m * up e) (down d) (down e) (pos_le (m * up e) (n * up d) (down e) (down d) h)
+le_mirror x y p q h = grind (arith, le_neg, pos_le)
 
 le_between : (x y : Float) → plain x ≡ true → plain y ≡ true → le (neg x) y ≡ true
 unfolding le neg
-le_between nan y p q = no p
-le_between (inf true) y p q = no p
-le_between (inf false) nan p q = no q
-le_between (inf false) (inf true) p q = no q
-le_between (inf false) (inf false) p q = refl
-le_between (inf false) (fin t n d) p q = refl
-le_between (fin true m e) y p q = no p
-le_between (fin false m e) nan p q = no q
-le_between (fin false m e) (inf true) p q = no q
-le_between (fin false m e) (inf false) p q = refl
-le_between (fin false m e) (fin true n d) p q = no q
-le_between (fin false m e) (fin false n d) p q = le_across (m * up e) (n * up d) (down e) (down d)
+le_between x y p q = grind (arith, le_across)
 
 rises : (a b : ℕ) → a ≤ b → le (round binary64 false a 1) (round binary64 false b 1) ≡ true
-rises a b h = of_T _ (round_mono binary64 a 1 b 1 (omega arith) (omega arith) (omega arith))
+rises a b h = is_true _ (round_mono binary64 a 1 b 1 (omega arith) (omega arith) (omega arith))
 
 pub int_mono : (x y : ℤ) → le_z x y ≡ true → le (of_int binary64 x) (of_int binary64 y) ≡ true
 unfolding of_int
@@ -94,10 +73,7 @@ int_mono (negsuc a) (negsuc b) h =
 
 -- ---- no -0
 pub plain_proper : (x : Float) → plain x ≡ true → proper x ≡ true
-plain_proper nan p = no p
-plain_proper (inf s) p = refl
-plain_proper (fin true m e) p = no p
-plain_proper (fin false m e) p = refl
+plain_proper x p = grind arith
 
 one : round binary64 false 1 1 ≡ fin false 1 (pos 0)
 unfolding round

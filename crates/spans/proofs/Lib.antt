@@ -1,4 +1,3 @@
-pub mod Signs
 pub mod Order
 pub mod Products
 pub mod Sound

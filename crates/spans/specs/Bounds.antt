@@ -42,6 +42,10 @@ is_high Bottom = false
 is_high (At x) = true
 is_high Top = true
 
+-- a number as a bound, or another bound where it is below 32 bits or above them
+abbrev pub bound_at : ℤ → Bound → Bound → Bound
+bound_at z below above = cond (int_lt z smallest) below (cond (int_lt largest z) above (At z))
+
 -- a number as a low bound: below 32 bits it becomes the bottom, above them the largest number
 abbrev pub low_bound : ℤ → Bound
 low_bound z = cond (int_lt z smallest) Bottom (cond (int_lt largest z) (At largest) (At z))

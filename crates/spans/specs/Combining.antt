@@ -1,5 +1,5 @@
 -- What each operation makes of the bounds of two spans, low before high. Assumes nothing.
-use Rattle.std.specs.Prelude.{true, false, ℤ, ◌+ℤ◌, ◌-ℤ◌, ◌*ℤ◌, Float}
+use Rattle.std.specs.Prelude.{true, false, ℤ, ◌+ℤ◌, ◌-ℤ◌, ◌*ℤ◌, Option, Some, None, Float}
 use Rattle.std.specs.Int.{int_min, int_max}
 use Rattle.std.specs.Float.{float_min, float_max, inf}
 use Rattle.spans.specs.declared.bound.Bound.{Bound}
@@ -7,6 +7,10 @@ use Rattle.spans.specs.declared.bound.Bound.TheVariants.{Bottom, Top}
 use Rattle.spans.specs.declared.operation.Operation.{Operation}
 use Rattle.spans.specs.declared.operation.Operation.TheVariants.{Sum, Difference, Product, Quotient, Minimum, Maximum}
 use Rattle.spans.specs.Bounds.{lesser, greater, low_bound, high_bound, by_number}
+
+-- the numbers that two bounds are, where both are numbers
+abbrev pub both_numbers : Bound → Bound → Option (ℤ × ℤ)
+both_numbers a b = by_number a None (λ x. by_number b None (λ y. Some (x, y)))
 
 -- the low bound that two bounds make by f, the bottom unless both are numbers
 abbrev pub make_low : (ℤ → ℤ → ℤ) → Bound → Bound → Bound

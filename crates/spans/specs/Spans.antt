@@ -1,5 +1,5 @@
 -- The ranges of spans and of rows. Assumes nothing.
-use Rattle.std.specs.Prelude.{◌≡◌, true, false, Option, MatchOption, from_bits}
+use Rattle.std.specs.Prelude.{◌≡◌, ℕ, List, true, false, Option, MatchOption, from_bits, codes}
 use Rattle.std.specs.Float.{binary64}
 use Rattle.spans.specs.declared.kind.Kind.{Kind}
 use Rattle.spans.specs.declared.kind.Kind.TheVariants as kind
@@ -25,3 +25,7 @@ kind_of (real l h) = kind.Real
 -- a span exactly where the range is sound
 abbrev pub Checked : Range → Option Span → Type 0
 Checked a r = MatchOption r (sound a ≡ false) (λ s. (sound a ≡ true) × (range s ≡ a))
+
+-- what is printed where a row's bounds make no span
+abbrev pub no_span : List ℕ
+no_span = codes "the bounds are not those of a span"

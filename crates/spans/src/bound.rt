@@ -1,11 +1,9 @@
 // A bound of a whole span.
-ghost use Rattle.std.specs.Prelude.{◌≡◌, ◌+ℤ◌, ◌-ℤ◌, ◌*ℤ◌};
-ghost use Rattle.spans.specs.Bounds.{at_most, lesser, greater, is_low, is_high, low_bound, high_bound, number, as_real};
-ghost use Rattle.spans.specs.Combining.{make_low, make_high};
+ghost use Rattle.std.specs.Prelude.{◌≡◌};
+ghost use Rattle.spans.specs.Bounds.{bound_at, low_bound, high_bound, number, as_real};
+ghost use Rattle.spans.specs.Combining.{both_numbers};
 
-use crate::float;
-
-#[derive(Clone, Copy, PartialEq, Eq, Debug)]
+#[derive(Clone, Copy, Debug, PartialEq, Eq, Hash, PartialOrd, Ord)]
 pub enum Bound {
     // below every number
     Bottom,
@@ -14,48 +12,21 @@ pub enum Bound {
     Top,
 }
 
+// Exact: a float holds every 32-bit number.
+impl From<Bound> for f64 {
+    ghost from_gives = { λ bound result. result ≡ as_real bound };
+
+    #[tactic(auto, using(floats::proofs::Patterns::literals))]
+    fn from(bound: Bound) -> f64 {
+        match bound {
+            Bound::Bottom => f64::NEG_INFINITY,
+            Bound::At(number) => f64::from(number),
+            Bound::Top => f64::INFINITY,
+        }
+    }
+}
+
 impl Bound {
-    pub(crate) fn at_most(self, other: Bound) -> bool
-        ensures { result ≡ at_most self other }
-    {
-        match (self, other) {
-            (Bound::Bottom, _) => true,
-            (_, Bound::Top) => true,
-            (Bound::At(x), Bound::At(y)) => x <= y,
-            _ => false,
-        }
-    }
-
-    pub(crate) fn lesser(self, other: Bound) -> Bound
-        ensures { result ≡ lesser self other }
-    {
-        if self.at_most(other) { self } else { other }
-    }
-
-    pub(crate) fn greater(self, other: Bound) -> Bound
-        ensures { result ≡ greater self other }
-    {
-        if self.at_most(other) { other } else { self }
-    }
-
-    pub(crate) fn is_low(self) -> bool
-        ensures { result ≡ is_low self }
-    {
-        match self {
-            Bound::Bottom | Bound::At(_) => true,
-            Bound::Top => false,
-        }
-    }
-
-    pub(crate) fn is_high(self) -> bool
-        ensures { result ≡ is_high self }
-    {
-        match self {
-            Bound::Bottom => false,
-            Bound::At(_) | Bound::Top => true,
-        }
-    }
-
     pub(crate) fn number(self) -> Option<i32>
         ensures { result ≡ number self }
     {
@@ -65,14 +36,21 @@ impl Bound {
         }
     }
 
-    // Exact: a float holds every 32-bit number.
-    pub(crate) fn to_real(self) -> f64
-        ensures { result ≡ as_real self }
+    // Both numbers, where both bounds are numbers.
+    pub(crate) fn numbers(self, other: Bound) -> Option<(i32, i32)>
+        ensures { result ≡ both_numbers self other }
     {
-        match self {
-            Bound::Bottom => float::lowest(),
-            Bound::At(number) => number as f64,
-            Bound::Top => float::highest(),
+        Some((self.number()?, other.number()?))
+    }
+
+    // At the number, or another bound where it is below 32 bits or above them.
+    fn at(number: i64, below: Bound, above: Bound) -> Bound
+        ensures { result ≡ bound_at number below above }
+    {
+        match i32::try_from(number) {
+            Ok(number) => Bound::At(number),
+            Err(_) if number < 0 => below,
+            Err(_) => above,
         }
     }
 
@@ -80,61 +58,13 @@ impl Bound {
     pub(crate) fn low(number: i64) -> Bound
         ensures { result ≡ low_bound number }
     {
-        if number < i32::MIN as i64 {
-            Bound::Bottom
-        } else if number > i32::MAX as i64 {
-            Bound::At(i32::MAX)
-        } else {
-            Bound::At(number as i32)
-        }
+        Bound::at(number, Bound::Bottom, Bound::At(i32::MAX))
     }
 
     // Above 32 bits the top, below them the smallest number.
     pub(crate) fn high(number: i64) -> Bound
         ensures { result ≡ high_bound number }
     {
-        if number > i32::MAX as i64 {
-            Bound::Top
-        } else if number < i32::MIN as i64 {
-            Bound::At(i32::MIN)
-        } else {
-            Bound::At(number as i32)
-        }
-    }
-
-    pub(crate) fn low_sum(self, other: Bound) -> Bound
-        ensures { result ≡ make_low ◌+ℤ◌ self other }
-    {
-        match (self, other) {
-            (Bound::At(x), Bound::At(y)) => Bound::low(x as i64 + y as i64),
-            _ => Bound::Bottom,
-        }
-    }
-
-    pub(crate) fn high_sum(self, other: Bound) -> Bound
-        ensures { result ≡ make_high ◌+ℤ◌ self other }
-    {
-        match (self, other) {
-            (Bound::At(x), Bound::At(y)) => Bound::high(x as i64 + y as i64),
-            _ => Bound::Top,
-        }
-    }
-
-    pub(crate) fn low_difference(self, other: Bound) -> Bound
-        ensures { result ≡ make_low ◌-ℤ◌ self other }
-    {
-        match (self, other) {
-            (Bound::At(x), Bound::At(y)) => Bound::low(x as i64 - y as i64),
-            _ => Bound::Bottom,
-        }
-    }
-
-    pub(crate) fn high_difference(self, other: Bound) -> Bound
-        ensures { result ≡ make_high ◌-ℤ◌ self other }
-    {
-        match (self, other) {
-            (Bound::At(x), Bound::At(y)) => Bound::high(x as i64 - y as i64),
-            _ => Bound::Top,
-        }
+        Bound::at(number, Bound::At(i32::MIN), Bound::Top)
     }
 }

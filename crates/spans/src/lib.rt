@@ -2,7 +2,6 @@
 #![tactic(auto)]
 
 mod bound;
-mod float;
 mod kind;
 mod operation;
 mod real;
@@ -14,6 +13,6 @@ pub use bound::Bound;
 pub use kind::Kind;
 pub use operation::Operation;
 pub use real::RealSpan;
-pub use row::SpanRow;
+pub use row::{NoSpan, SpanRow};
 pub use span::Span;
 pub use whole::WholeSpan;

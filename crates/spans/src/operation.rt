@@ -1,5 +1,5 @@
 // The operations that combine two samples.
-#[derive(Clone, Copy, PartialEq, Eq, Debug)]
+#[derive(Clone, Copy, Debug, PartialEq, Eq, Hash)]
 pub enum Operation {
     Sum,
     Difference,

@@ -2,7 +2,7 @@
 use crate::real::RealSpan;
 use crate::whole::WholeSpan;
 
-#[derive(Clone, Copy)]
+#[derive(Clone, Copy, Debug, PartialEq)]
 pub enum Span {
     Whole(WholeSpan),
     Real(RealSpan),

@@ -7,7 +7,7 @@ use crate::bound::Bound;
 mod calls;
 mod products;
 
-#[derive(Clone, Copy)]
+#[derive(Clone, Copy, Debug, PartialEq, Eq, Hash)]
 pub struct WholeSpan {
     low: Bound,
     high: Bound,

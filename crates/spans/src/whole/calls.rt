@@ -14,7 +14,7 @@ impl WholeSpan {
     pub(crate) fn between(low: Bound, high: Bound) -> Option<WholeSpan>
         ensures { MatchOption result (sound (whole low high) ≡ false) (λ s. (sound (whole low high) ≡ true) × (s.low ≡ low) × (s.high ≡ high)) }
     {
-        if low.is_low() && high.is_high() && low.at_most(high) {
+        if low != Bound::Top && high != Bound::Bottom && low <= high {
             Some(WholeSpan { low, high })
         } else {
             None
@@ -25,18 +25,20 @@ impl WholeSpan {
         ensures low { result.low ≡ At number }
         ensures high { result.high ≡ At number }
     {
-        let low = Bound::At(number);
-        let high = Bound::At(number);
-        WholeSpan { low, high }
+        WholeSpan {
+            low: Bound::At(number),
+            high: Bound::At(number),
+        }
     }
 
     pub(crate) fn all() -> WholeSpan
         ensures low { result.low ≡ Bottom }
         ensures high { result.high ≡ Top }
     {
-        let low = Bound::Bottom;
-        let high = Bound::Top;
-        WholeSpan { low, high }
+        WholeSpan {
+            low: Bound::Bottom,
+            high: Bound::Top,
+        }
     }
 
     pub fn low(self) -> Bound
@@ -51,23 +53,42 @@ impl WholeSpan {
         self.high
     }
 
-    // The low and the high bound of what the operation makes.
+    // The low and the high bound of what the operation makes. The operation is a value that a patch gives: so no closure.
+    // (Each sum and difference is a chain of its own: a function over the operator would need clauses on it.)
+    #[tactic(auto, using(crate::proofs::Order::derived))]
     fn bounds(self, operation: Operation, other: WholeSpan) -> (Bound, Bound)
-        ensures { result ≡ (whole_low operation self.low self.high other.low other.high, whole_high operation self.low self.high other.low other.high) }
+        ensures low { result.0 ≡ whole_low operation self.low self.high other.low other.high }
+        ensures high { result.1 ≡ whole_high operation self.low self.high other.low other.high }
     {
         match operation {
-            Operation::Sum => (self.low.low_sum(other.low), self.high.high_sum(other.high)),
+            Operation::Sum => (
+                self.low.numbers(other.low).map_or(
+                    Bound::Bottom,
+                    |(x, y)| Bound::low(i64::from(x) + i64::from(y)),
+                ),
+                self.high.numbers(other.high).map_or(
+                    Bound::Top,
+                    |(x, y)| Bound::high(i64::from(x) + i64::from(y)),
+                ),
+            ),
             Operation::Difference => (
-                self.low.low_difference(other.high),
-                self.high.high_difference(other.low),
+                self.low.numbers(other.high).map_or(
+                    Bound::Bottom,
+                    |(x, y)| Bound::low(i64::from(x) - i64::from(y)),
+                ),
+                self.high.numbers(other.low).map_or(
+                    Bound::Top,
+                    |(x, y)| Bound::high(i64::from(x) - i64::from(y)),
+                ),
             ),
             Operation::Product => self.product(other),
             Operation::Quotient => (Bound::Bottom, Bound::Top),
-            Operation::Minimum => (self.low.lesser(other.low), self.high.lesser(other.high)),
-            Operation::Maximum => (self.low.greater(other.low), self.high.greater(other.high)),
+            Operation::Minimum => (self.low.min(other.low), self.high.min(other.high)),
+            Operation::Maximum => (self.low.max(other.low), self.high.max(other.high)),
         }
     }
 
+    #[tactic(auto, using(crate::proofs::Sound::whole_sound))]
     pub(crate) fn combine(self, operation: Operation, other: WholeSpan) -> WholeSpan
         ensures low { result.low ≡ whole_low operation self.low self.high other.low other.high }
         ensures high { result.high ≡ whole_high operation self.low self.high other.low other.high }
@@ -80,27 +101,28 @@ impl WholeSpan {
         ensures low { result.low ≡ lesser self.low other.low }
         ensures high { result.high ≡ greater self.high other.high }
     {
-        let low = self.low.lesser(other.low);
-        let high = self.high.greater(other.high);
-        WholeSpan { low, high }
+        WholeSpan {
+            low: self.low.min(other.low),
+            high: self.high.max(other.high),
+        }
     }
 
     pub(crate) fn holds_zero(self) -> bool
         ensures { result ≡ holds_zero (whole self.low self.high) }
     {
-        self.low.at_most(Bound::At(0)) && Bound::At(0).at_most(self.high)
+        self.low <= Bound::At(0) && Bound::At(0) <= self.high
     }
 
     pub(crate) fn within(self, outer: WholeSpan) -> bool
         ensures { result ≡ within (whole self.low self.high) (whole outer.low outer.high) }
     {
-        outer.low.at_most(self.low) && self.high.at_most(outer.high)
+        outer.low <= self.low && self.high <= outer.high
     }
 
     // From 0 or more up to a number.
     pub(crate) fn is_countable(self) -> bool
         ensures { result ≡ countable (whole self.low self.high) }
     {
-        Bound::At(0).at_most(self.low) && self.high.number().is_some()
+        Bound::At(0) <= self.low && self.high.number().is_some()
     }
 }

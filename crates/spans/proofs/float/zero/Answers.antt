@@ -1,7 +1,0 @@
-use Rattle.std.proofs.Common.{refl}
-use lib.Ieee.{of_bits, of_int}
-use Rattle.spans.proofs.float.zero.Goals as goal
-
-pub returns : goal.returns
-unfolding of_bits of_int
-returns c = refl
