@@ -1,11 +1,10 @@
 -- Lists of exponents and the fractions that they stand for. Assumes nothing.
-use Rattle.std.proofs.Common.{◌≡◌, ℕ, zero, suc, ◌+◌, ◌*◌, T, List, [], ◌∷◌, map, length, replicate, ℤ, pos, negsuc, ◌+ℤ◌, sym, refl, ap, ◌∙◌, ap₂, arith}
-use native.Mathlib.Nat.{pow-zero}
+use Rattle.std.proofs.Common.{◌≡◌, ℕ, zero, suc, ◌+◌, ◌*◌, T, List, [], ◌∷◌, map, length, ℤ, pos, negsuc, ◌+ℤ◌, sym, refl, ap, ◌∙◌, ap₂, arith}
 use lib.ListN.{length-map}
 use borrow.Author.Differences.{up, down, ints, same_in}
-use Rattle.fractions.specs.Fractions.{same, mul, inv, one}
+use Rattle.fractions.specs.Fractions.{same, mul, inv}
 use Rattle.fractions.specs.Powers.{product, positive, fraction}
-use Rattle.fractions.specs.Exponents.{zip_with, added, negated, zeros}
+use Rattle.fractions.specs.Exponents.{zip_with, added, negated}
 use Rattle.fractions.proofs.Primes.{Primes}
 use Rattle.fractions.proofs.Products.{product_add, product_inj}
 
@@ -65,22 +64,6 @@ module _ (ps : List ℕ) (t : T (positive ps)) where
   -- the negated exponents are the inverse
   pub fraction_neg : (es : List ℤ) → same (fraction ps t (negated es)) (inv (fraction ps t es))
   fraction_neg es = ap₂ ◌*◌ (ap (product ps) (up_neg es)) (ap (product ps) (sym (down_neg es)))
-
-product_zero : (ps : List ℕ) (n : ℕ) → product ps (replicate n 0) ≡ 1
-product_zero [] n = refl
-product_zero (p ∷ ps) zero = refl
-product_zero (p ∷ ps) (suc n) = ap₂ ◌*◌ (pow-zero p) (product_zero ps n)
-
-map_zero : (f : ℤ → ℕ) (n : ℕ) → f (pos 0) ≡ 0 → map f (zeros n) ≡ replicate n 0
-map_zero f zero e = refl
-map_zero f (suc n) e = ap₂ ◌∷◌ e (map_zero f n e)
-
-module _ (ps : List ℕ) (t : T (positive ps)) where
-  pub fraction_zero : (n : ℕ) → same (fraction ps t (zeros n)) one
-  fraction_zero n =
-      let e : product ps (map up (zeros n)) ≡ 1 = ap (product ps) (map_zero up n refl) ∙ product_zero ps n in
-      let f : product ps (map down (zeros n)) ≡ 1 = ap (product ps) (map_zero down n refl) ∙ product_zero ps n in
-      ap (λ (x : ℕ). x * 1) e ∙ ap (λ (x : ℕ). 1 * x) (sym f)
 
 crossed : (es fs : List ℤ) → length es ≡ length fs → zip_with ◌+◌ (map up es) (map down fs) ≡ zip_with ◌+◌ (map up fs) (map down es) → es ≡ fs
 crossed [] [] h e = refl

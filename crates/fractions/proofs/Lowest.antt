@@ -1,14 +1,15 @@
--- A product of powers is a fraction in lowest terms; products of the first powers of a list. Assumes nothing.
-use Rattle.std.proofs.Common.{◌≡◌, ℕ, zero, suc, ◌+◌, ◌*◌, ◌^◌, ◌<◌, ◌≤◌, T, List, [], ◌∷◌, map, length, get_or, take, ℤ, pos, negsuc, sym, refl, ap, ◌∙◌, subst, mul-le-mul_right, mul_assoc, mul_comm, mul-le-mul_left, mul-pos, one-mul, mul-one, arith}
+-- A product of powers is a fraction in lowest terms. Assumes nothing.
+use Rattle.std.proofs.Common.{◌≡◌, ℕ, suc, ◌/◌, ◌*◌, ◌^◌, T, List, [], ◌∷◌, map, ℤ, pos, negsuc, sym, refl, ◌∙◌, ap, subst, mul_comm, mul_assoc, one-mul}
 use Prim.Native.Nat.{◌∣◌}
-use native.Mathlib.Nat.{one-le-pow, pow-zero, dvd-mul_right}
+use Rattle.std.proofs.Math.Nat.{div-mul_cancel, eq_of_mul-eq-mul_left}
+use native.Mathlib.Nat.{pow-zero, dvd-mul_right}
 use borrow.Author.Differences.{up, down}
 use Rattle.fractions.specs.Fractions.{Fraction, same}
 use Rattle.fractions.specs.Powers.{product, positive, product_pos, fraction}
 use Rattle.fractions.specs.Reduced.{Reduced}
 use Rattle.fractions.proofs.Coprime.{Coprime, cop_sym, cop_one, cop_mul, cop_pow, cop_apart, gauss}
 use Rattle.fractions.proofs.Primes.{Primes}
-use Rattle.fractions.proofs.Products.{product_cop, product_above}
+use Rattle.fractions.proofs.Products.{product_cop}
 
 -- p to the x times a, and p to the 0 times b
 one_side : (p x a b : ℕ) → Coprime p b → Coprime a b → Coprime (p ^ x * a) (p ^ 0 * b)
@@ -46,38 +47,14 @@ multiples ps t b es x e =
       gauss d n x.den (cop_sym n d f) (subst (λ (k : ℕ). d ∣ k) (mul_comm d x.num ∙ e ∙ mul_comm n x.den) (dvd-mul_right d x.num)),
     )
 
-front_suc : (i : ℕ) (ps xs : List ℕ) → i < length ps → i < length xs → product (take (suc i) ps) (take (suc i) xs) ≡ product (take i ps) (take i xs) * get_or ps i 0 ^ get_or xs i 0
-front_suc i [] xs h k = absurd (omega arith)
-front_suc i (p ∷ ps) [] h k = absurd (omega arith)
-front_suc zero (p ∷ ps) (x ∷ xs) h k = mul-one (p ^ x) ∙ sym (one-mul (p ^ x))
-front_suc (suc i) (p ∷ ps) (x ∷ xs) h k =
-    ap (λ (n : ℕ). p ^ x * n) (front_suc i ps xs (omega arith) (omega arith)) ∙ sym (mul_assoc (p ^ x) (product (take i ps) (take i xs)) (get_or ps i 0 ^ get_or xs i 0))
-
--- one place more
-pub front_more : (ps xs : List ℕ) (i : ℕ) → i < length ps → i < length xs → product (take (i + 1) ps) (take (i + 1) xs) ≡ product (take i ps) (take i xs) * get_or ps i 0 ^ get_or xs i 0
-front_more ps xs i h k = let s : i + 1 ≡ suc i = omega arith in ap (λ (n : ℕ). product (take n ps) (take n xs)) s ∙ front_suc i ps xs h k
-
-front_pos : (i : ℕ) (ps xs : List ℕ) → Primes ps → 0 < product (take i ps) (take i xs)
-front_pos zero ps xs b = omega arith
-front_pos (suc i) [] xs b = omega arith
-front_pos (suc i) (p ∷ ps) [] b = omega arith
-front_pos (suc i) (p ∷ ps) (x ∷ xs) b = let l : 1 < p = b.0.above in mul-pos (one-le-pow x p (omega arith)) (front_pos i ps xs b.2)
-
--- the first places have no larger product than all
-pub front_le : (i : ℕ) (ps xs : List ℕ) → Primes ps → product (take i ps) (take i xs) ≤ product ps xs
-front_le zero ps xs b = product_above ps xs b
-front_le (suc i) [] xs b = omega arith
-front_le (suc i) (p ∷ ps) [] b = omega arith
-front_le (suc i) (p ∷ ps) (x ∷ xs) b = mul-le-mul_left (p ^ x) (front_le i ps xs b.2)
-
--- nor has a single power
-pub power_le : (i : ℕ) (ps xs : List ℕ) → Primes ps → i < length ps → i < length xs → get_or ps i 0 ^ get_or xs i 0 ≤ product ps xs
-power_le i ps xs b h k =
-    let a : ℕ = product (take i ps) (take i xs) in
-    let q : ℕ = get_or ps i 0 ^ get_or xs i 0 in
-    let u : 1 ≤ a = front_pos i ps xs b in
-    let v : 1 * q ≤ a * q = mul-le-mul_right q u in
-    let w : 1 * q ≡ q = one-mul q in
-    let m : product (take (suc i) ps) (take (suc i) xs) ≡ a * q = front_suc i ps xs h k in
-    let n : product (take (suc i) ps) (take (suc i) xs) ≤ product ps xs = front_le (suc i) ps xs b in
-    omega arith
+-- there is only one way to write it in lowest terms
+pub reduced_only : (ps : List ℕ) (t : T (positive ps)) → Primes ps → (es : List ℤ) (n d : ℕ) → Reduced (fraction ps t es) n d → (n ≡ product ps (map up es)) × (d ≡ product ps (map down es))
+reduced_only ps t b es n d r =
+    let u : ℕ = product ps (map up es) in
+    let v : ℕ = product ps (map down es) in
+    let m = multiples ps t b es (record { num = n; den = d; num_pos = r.above; den_pos = r.below }) r.equal in
+    let k : ℕ = n / u in
+    let e : k * u ≡ n = div-mul_cancel u m.0 in
+    let f : k * v ≡ d = eq_of_mul-eq-mul_left u (product_pos ps (map up es) t) (k * v) d (sym (mul_assoc u k v) ∙ ap (λ x. x * v) (mul_comm u k ∙ e) ∙ r.equal) in
+    let o : k ≡ 1 = r.apart k (subst (λ x. k ∣ x) e (dvd-mul_right k u)) (subst (λ x. k ∣ x) f (dvd-mul_right k v)) in
+    (sym e ∙ ap (λ x. x * u) o ∙ one-mul u, sym f ∙ ap (λ x. x * v) o ∙ one-mul v)

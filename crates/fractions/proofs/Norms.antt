@@ -1,22 +1,22 @@
 -- The norm of a list of exponents: its largest, without its sign. Assumes nothing.
-use Rattle.std.proofs.Common.{◌≡◌, ℕ, zero, suc, ◌+◌, ◌<◌, ◌≤◌, max, List, [], ◌∷◌, length, get_or, take, ℤ, pos, ◌+ℤ◌, neg_ℤ, nat_abs, refl, ap, ◌∙◌, ap₂, add-one, arith}
+use Rattle.std.proofs.Common.{◌≡◌, ℕ, zero, suc, ◌+◌, ◌<◌, ◌≤◌, max, List, [], ◌∷◌, length, get_or, map, ℤ, pos, ◌+ℤ◌, neg_ℤ, nat_abs, refl, ap₂, arith}
 use borrow.Author.Differences.{ints}
 use Rattle.std.specs.Int.{int_min}
+use Rattle.std.specs.List.{fold, reduce}
+use Rattle.std.specs.Option.{unwrap_or}
 use Rattle.std.proofs.lemmas.Int.{clamps}
-use Rattle.fractions.specs.Exponents.{added, negated, minima, zeros, norm}
+use Rattle.fractions.specs.Exponents.{added, negated, minima, norm}
 
-norm_suc : (i : ℕ) (xs : List ℤ) → i < length xs → norm (take (suc i) xs) ≡ max (norm (take i xs)) (nat_abs (get_or xs i (pos 0)))
+fold_max : (a : ℕ) (xs : List ℤ) → fold max a (map nat_abs xs) ≡ max a (norm xs)
 unfolding norm
-norm_suc i [] h = absurd (omega arith)
-norm_suc zero (x ∷ xs) h = omega arith
-norm_suc (suc i) (x ∷ xs) h = let r = norm_suc i xs (omega arith) in omega arith
+fold_max a [] = omega arith
+fold_max a (x ∷ xs) = let r = fold_max (max a (nat_abs x)) xs in omega arith
 
-pub norm_more : (xs : List ℤ) (i : ℕ) → i < length xs → norm (take (i + 1) xs) ≡ max (norm (take i xs)) (nat_abs (get_or xs i (pos 0)))
-norm_more xs i h = ap (λ (n : ℕ). norm (take n xs)) (add-one i) ∙ norm_suc i xs h
-
-pub norm_none : (xs : List ℤ) → norm (take 0 xs) ≡ 0
+-- the largest of the numbers without their signs, or 0 where there are none
+pub norm_max : (xs : List ℤ) → unwrap_or (reduce max (map nat_abs xs)) 0 ≡ norm xs
 unfolding norm
-norm_none xs = refl
+norm_max [] = refl
+norm_max (x ∷ xs) = fold_max (nat_abs x) xs
 
 pub norm_at : (xs : List ℤ) (i : ℕ) → i < length xs → nat_abs (get_or xs i (pos 0)) ≤ norm xs
 unfolding norm
@@ -43,11 +43,6 @@ pub norm_neg : (xs : List ℤ) → norm (negated xs) ≡ norm xs
 unfolding norm
 norm_neg [] = refl
 norm_neg (x ∷ xs) = ap₂ max (abs_neg x) (norm_neg xs)
-
-pub norm_zero : (n : ℕ) → norm (zeros n) ≡ 0
-unfolding norm
-norm_zero zero = refl
-norm_zero (suc n) = ap₂ max {x = nat_abs (pos 0)} refl (norm_zero n)
 
 -- no lesser exponent is larger than both
 pub norm_min : (k : ℕ) (xs ys : List ℤ) → norm xs ≤ k → norm ys ≤ k → norm (minima xs ys) ≤ k

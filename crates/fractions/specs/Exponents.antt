@@ -1,5 +1,5 @@
 -- Lists of exponents: sums, opposites and the lesser place by place, and the largest. Assumes nothing.
-use Rattle.std.specs.Prelude.{ℕ, max, List, [], ◌∷◌, map, replicate, ℤ, pos, ◌+ℤ◌, neg_ℤ, unsigned_abs}
+use Rattle.std.specs.Prelude.{ℕ, max, List, [], ◌∷◌, map, ℤ, ◌+ℤ◌, neg_ℤ, unsigned_abs}
 use Rattle.std.specs.Int.{int_min}
 
 -- place by place, to the end of the shorter
@@ -16,9 +16,6 @@ negated = map neg_ℤ
 
 abbrev pub minima : List ℤ → List ℤ → List ℤ
 minima = zip_with int_min
-
-abbrev pub zeros : ℕ → List ℤ
-zeros n = replicate n (pos 0)
 
 -- the largest, without its sign
 unfoldable pub norm : List ℤ → ℕ

@@ -11,12 +11,10 @@ abbrev pub From : {S : Type 0} → List (Cell S) → ℕ → ℕ → ℕ → ℕ
 From cs a b p q = (roots cs p ≡ roots cs q) ⊎ (((roots cs p ≡ roots cs a) × (roots cs b ≡ roots cs q)) ⊎ ((roots cs p ≡ roots cs b) × (roots cs a ≡ roots cs q)))
 
 module _ (K : Kind) {S : Type 0} (mean : S → K.Element) where
-  pub record Point (cs : List (Cell S)) (n : ℕ) (cs' : List (Cell S)) : Type 0 where
-    pub kept : Kept K mean cs' (n + 1)
-    pub own : roots cs' n ≡ n
-    pub stays : (p : ℕ) → p < n → roots cs' p ≡ roots cs p
-    pub on : (v : ℕ → K.Element) → CellsFit K mean cs n v → CellsFit K mean cs' (n + 1) v
-    pub back : (v : ℕ → K.Element) → CellsFit K mean cs' (n + 1) v → CellsFit K mean cs n v
+  pub record Point (cs : List (Cell S)) (n : ℕ) : Type 0 where
+    pub kept : Kept K mean cs (n + 1)
+    pub own : roots cs n ≡ n
+    pub on : (v : ℕ → K.Element) → CellsFit K mean cs n v → CellsFit K mean cs (n + 1) v
 
   pub record Tied (cs : List (Cell S)) (n : ℕ) (cs' : List (Cell S)) (a b : ℕ) (g : K.Element) : Type 0 where
     pub kept : Kept K mean cs' n

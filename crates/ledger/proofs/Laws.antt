@@ -18,9 +18,9 @@ module _ (K : Kind) {S : Type 0} (mean : S → K.Element) where
     subst (λ (m : ℕ). TieVerdict K m ts x a) l (h.1.verdict ts t),
     runs es cells n (after K ts x a) h.0 s' (h.1.room ∙ r) (h.1.len ∙ l) (h.1.tells ts t) h.2,
   )
-  runs (asking a b out out' x ∷ es) cells n ts s s' r l t h = (
+  runs (asking a b x ∷ es) cells n ts s s' r l t h = (
     subst (λ (m : ℕ). AskChecks m a b x) l h.1.checks,
-    subst (λ (m : ℕ). AskVerdict K mean m ts a b out' x) l (h.1.verdict ts t),
+    subst (λ (m : ℕ). AskVerdict K mean m ts a b x) l (h.1.verdict ts t),
     runs es cells n ts h.0 s' (ap (λ (c : Contents S). length c.cells) h.1.unchanged ∙ r) (ap (λ (c : Contents S). c.len) h.1.unchanged ∙ l) (subst (λ (c : Contents S). Tells K mean c ts) (sym h.1.unchanged) t) h.2,
   )
 

@@ -1,4 +1,5 @@
 pub mod Views
+pub mod Stands
 pub mod Moves
 pub mod Turns
 pub mod Groups
@@ -7,6 +8,7 @@ pub mod Counts
 pub mod Joins
 pub mod Chains
 pub mod Grown
+pub mod Unused
 pub mod Points
 pub mod Judged
 pub mod Telling

@@ -1,5 +1,5 @@
 -- What the ledger tells of after each call. Assumes nothing.
-use Rattle.std.proofs.Common.{◌≡◌, ℕ, ◌+◌, ◌<◌, List, [], ◌∷◌, sym, refl, ap, ◌∙◌, inl, inr, arith, below_more}
+use Rattle.std.proofs.Common.{◌≡◌, ℕ, ◌+◌, ◌<◌, List, [], ◌∷◌, refl, ap, inl, inr, arith, below_more}
 use Rattle.steps.specs.Kind.{Kind}
 use Rattle.ledger.specs.declared.cells.Cell.{Cell}
 use Rattle.ledger.specs.Trees.{roots}
@@ -28,28 +28,28 @@ module _ (K : Kind) {S : Type 0} (mean : S → K.Element) where
     same_root : (p q : ℕ) → Joins K ts p q → roots cs p ≡ roots cs q
     same_root p q j = let w = joins_within K n ts tells.within p q j in tells.joined p q w.0 w.1 (linked_step K ts p q j)
 
-    module _ (cs' : List (Cell S)) (x : Point K mean cs n cs') where
-      point_linked : (p : ℕ) → p < n + 1 → (q : ℕ) → q < n + 1 → roots cs' p ≡ roots cs' q → Linked K ts p q
+    module _ (x : Point K mean cs n) where
+      point_linked : (p : ℕ) → p < n + 1 → (q : ℕ) → q < n + 1 → roots cs p ≡ roots cs q → Linked K ts p q
       point_linked =
-          below_more (λ p. (q : ℕ) → q < n + 1 → roots cs' p ≡ roots cs' q → Linked K ts p q) n
-          (λ p hp. below_more (λ q. roots cs' p ≡ roots cs' q → Linked K ts p q) n
-          (λ q hq e. tells.linked p q hp hq (sym (x.stays p hp) ∙ e ∙ x.stays q hq))
-          (λ e. let i = tells.kept.sound.inside p hp in let s = x.stays p hp in let o = x.own in absurd (omega arith)))
-          (below_more (λ q. roots cs' n ≡ roots cs' q → Linked K ts n q) n
-          (λ q hq e. let i = tells.kept.sound.inside q hq in let s = x.stays q hq in let o = x.own in absurd (omega arith))
+          below_more (λ p. (q : ℕ) → q < n + 1 → roots cs p ≡ roots cs q → Linked K ts p q) n
+          (λ p hp. below_more (λ q. roots cs p ≡ roots cs q → Linked K ts p q) n
+          (λ q hq. tells.linked p q hp hq)
+          (λ e. let i = tells.kept.sound.inside p hp in let o = x.own in absurd (omega arith)))
+          (below_more (λ q. roots cs n ≡ roots cs q → Linked K ts n q) n
+          (λ q hq e. let i = tells.kept.sound.inside q hq in let o = x.own in absurd (omega arith))
           (λ e. linked_self K ts n n refl))
 
-      point_joined : (p : ℕ) → p < n + 1 → (q : ℕ) → q < n + 1 → Linked K ts p q → roots cs' p ≡ roots cs' q
+      point_joined : (p : ℕ) → p < n + 1 → (q : ℕ) → q < n + 1 → Linked K ts p q → roots cs p ≡ roots cs q
       point_joined =
-          below_more (λ p. (q : ℕ) → q < n + 1 → Linked K ts p q → roots cs' p ≡ roots cs' q) n
-          (λ p hp q _ l. let hq = linked_within K n ts tells.within p q hp l in x.stays p hp ∙ tells.joined p q hp hq l ∙ sym (x.stays q hq))
-          (λ q _ l. ap (roots cs') (linked_outside K n ts tells.within n q (λ h. omega arith) l))
+          below_more (λ p. (q : ℕ) → q < n + 1 → Linked K ts p q → roots cs p ≡ roots cs q) n
+          (λ p hp q _ l. tells.joined p q hp (linked_within K n ts tells.within p q hp l) l)
+          (λ q _ l. ap (roots cs) (linked_outside K n ts tells.within n q (λ h. omega arith) l))
 
-      pub tells_point : Tells K mean (holding cs' (n + 1)) ts
+      pub tells_point : Tells K mean (holding cs (n + 1)) ts
       tells_point = record {
         kept = x.kept;
         within = within_more K n (n + 1) ts (omega arith) tells.within;
-        says = λ v f. tells.says v (x.back v f);
+        says = λ v f. tells.says v (λ p h. f p (omega arith));
         only = λ v s. x.on v (tells.only v s);
         linked = λ p q hp hq e. point_linked p hp q hq e;
         joined = λ p q hp hq l. point_joined p hp q hq l;

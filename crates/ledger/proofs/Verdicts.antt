@@ -1,73 +1,104 @@
 -- What each way through a tie and an ask answers. Assumes nothing.
-use Rattle.std.proofs.Common.{◌≡◌, ℕ, ◌+◌, ◌<◌, ◌≤◌, true, false, List, length, get_or, Some, None, Ok, Err, refl, arith}
+use Rattle.std.proofs.Common.{◌≡◌, ℕ, ◌+◌, ◌<◌, ◌≤◌, true, false, List, ◌++◌, length, get_or, take, drop, Some, None, Ok, Err, Option, Result, IsSome, refl, sym, ◌∙◌, arith}
+use Rattle.std.proofs.Math.Logic.{∥∥₁_elim}
+use Rattle.std.proofs.Math.Bridge.{le_prop}
+use Rattle.std.proofs.lemmas.List.{take-append-drop}
 use Rattle.steps.specs.Kind.{Kind, Lawful, Composed, Decides, limit}
 use Rattle.ledger.specs.declared.cells.Cell.{Cell}
+use Rattle.ledger.specs.declared.faults.Fault.{Fault}
 use Rattle.ledger.specs.declared.faults.Fault.TheVariants.{Contradiction}
-use Rattle.ledger.specs.Trees.{roots, steps, Movable, Moved}
-use Rattle.ledger.specs.Ties.{Tie, tied}
-use Rattle.ledger.specs.Tells.{holding, Tells}
+use Rattle.ledger.specs.Trees.{roots, steps, Relabelled}
+use Rattle.ledger.specs.Ties.{tied}
+use Rattle.ledger.specs.Tells.{holding, Kept, TellsSome}
 use Rattle.ledger.specs.Calls.{Tying, Asking}
 use Rattle.ledger.proofs.Answering.{tying_clash, tying_ok, asking_no, asking_yes}
+use Rattle.ledger.proofs.Ways.{composes}
 use Rattle.ledger.proofs.Joins.{pair_size, tie_size, fits_bridge}
 use Rattle.ledger.proofs.Judged.{tied_within, clashes, short_moved, tied_across, way_exact}
-use Rattle.ledger.proofs.Turns.{read_root, one_tree, two_trees}
+use Rattle.ledger.proofs.Stands.{Stands, stands, stands_first, moved_first, same_length}
 
-module _ (K : Kind) (L : Lawful K) {S : Type 0} (mean : S → K.Element) (cs : List (Cell S)) (n a b : ℕ) (room : n ≤ length cs) (ha : a < n) (hb : b < n) (da db : Cell S) where
-  -- the roots are as the code reads them
-  one : (get_or cs a da).root ≡ (get_or cs b db).root → roots cs a ≡ roots cs b
-  one = one_tree cs a b da db (omega arith) (omega arith)
+-- l is the cell of a, r that of b
+module _ (K : Kind) (L : Lawful K) {S : Type 0} (mean : S → K.Element) (cs : List (Cell S)) (n a b : ℕ) (tells : ∥ TellsSome K mean (holding cs n) ∥₁) (room : n ≤ length cs) (ha : a < n) (hb : b < n) (l r : Cell S) where
+  module _ (sl : Stands K mean cs a l) (sr : Stands K mean cs b r) where
+    one : l.root ≡ r.root → roots cs a ≡ roots cs b
+    one e = sl.root ∙ e ∙ sym sr.root
 
-  two : ((get_or cs a da).root ≡ (get_or cs b db).root → ⊥) → roots cs a ≡ roots cs b → ⊥
-  two = two_trees cs a b da db (omega arith) (omega arith)
+    two : (l.root ≡ r.root → ⊥) → roots cs a ≡ roots cs b → ⊥
+    two ne e = ne (sym sl.root ∙ e ∙ sr.root)
 
-  module _ (g : K.Element) (small : K.size g ≤ K.most) where
+    -- what is known of the steps in the two cells is known of those of the points
+    of_cells : (P : K.Element → K.Element → Type 0) → P (mean l.step) (mean r.step) → P (steps K mean cs a) (steps K mean cs b)
+    of_cells P = rw (sl.step, sr.step) (λ p. p)
+
+    -- and a bound on their sizes the other way round, where it holds in every sound ledger
+    bounded : (f : K.Element → K.Element → ℕ) → (Kept K mean cs n → f (steps K mean cs a) (steps K mean cs b) ≤ limit) → f (mean l.step) (mean r.step) ≤ limit
+    bounded f h = ∥∥₁_elim tells le_prop (λ w. rw (← sl.step, ← sr.step) (h w.1.kept))
+
+  -- a tie reads them among the first n cells, and leaves the others
+  module _ (il : l ≡ get_or (take n cs) a l) (ir : r ≡ get_or (take n cs) b r) (g : K.Element) (small : K.size g ≤ K.most) where
+    sl : Stands K mean cs a l
+    sl = stands_first K mean cs n room a l ha il
+
+    sr : Stands K mean cs b r
+    sr = stands_first K mean cs n room b r hb ir
+
     -- g and b's step compose
-    fits : (ts : List (Tie K)) → Tells K mean (holding cs n) ts → K.size g + K.size (steps K mean cs b) ≤ limit
-    fits ts t = tie_size K L n (roots cs) (steps K mean cs) t.kept.sound t.kept.few g small b hb
+    fits : K.size g + K.size (mean r.step) ≤ limit
+    fits = bounded sl sr (λ x y. K.size g + K.size y) (λ k. tie_size K L n (roots cs) (steps K mean cs) k.sound k.few g small b hb)
 
-    pub tie_known : (get_or cs a da).root ≡ (get_or cs b db).root → (K.size g + K.size (steps K mean cs b) ≤ limit → Decides true (K.same (steps K mean cs a) (K.mul g (steps K mean cs b)))) → Tying K mean (holding cs n) (tied K a b g) (Ok tt) (holding cs n)
+    kept : (x : Result (Unit {0}) Fault) → Tying K mean (holding cs n) (tied K a b g) x (holding cs n) → Tying K mean (holding cs n) (tied K a b g) x (holding (take n cs ++ drop n cs) n)
+    kept x = rw take-append-drop (λ k. k)
+
+    pub tie_known : l.root ≡ r.root → (K.size g + K.size (mean r.step) ≤ limit → Decides true (K.same (mean l.step) (K.mul g (mean r.step)))) → Tying K mean (holding cs n) (tied K a b g) (Ok tt) (holding (take n cs ++ drop n cs) n)
     tie_known e met =
-        tying_ok K mean cs n a b g (ha, hb) small cs refl (λ ts t. tied_within K L mean cs n a b t.kept ha hb g (one e) (met (fits ts t)))
+        let is = of_cells sl sr (λ x y. Decides true (K.same x (K.mul g y))) (met fits) in
+        kept (Ok tt) (tying_ok K mean cs n a b g (ha, hb) small cs refl (λ ts t. tied_within K L mean cs n a b t.kept ha hb g (one sl sr e) is))
 
-    pub tie_clashes : (get_or cs a da).root ≡ (get_or cs b db).root → (K.size g + K.size (steps K mean cs b) ≤ limit → Decides false (K.same (steps K mean cs a) (K.mul g (steps K mean cs b)))) → Tying K mean (holding cs n) (tied K a b g) (Err (Contradiction a b)) (holding cs n)
+    pub tie_clashes : l.root ≡ r.root → (K.size g + K.size (mean r.step) ≤ limit → Decides false (K.same (mean l.step) (K.mul g (mean r.step)))) → Tying K mean (holding cs n) (tied K a b g) (Err (Contradiction a b)) (holding (take n cs ++ drop n cs) n)
     tie_clashes e unmet =
-        tying_clash K mean cs n a b g (ha, hb) small (λ ts t. clashes K L mean cs n a b t.kept ha hb g (one e) (unmet (fits ts t)))
+        let isnt = of_cells sl sr (λ x y. Decides false (K.same x (K.mul g y))) (unmet fits) in
+        kept (Err (Contradiction a b)) (tying_clash K mean cs n a b g (ha, hb) small (λ ts t. clashes K L mean cs n a b t.kept ha hb g (one sl sr e) isnt))
 
-    module _ (ne : (get_or cs a da).root ≡ (get_or cs b db).root → ⊥) where
-      pub tie_joins : (by : S) → (K.size g + K.size (steps K mean cs b) ≤ limit → Composed K mean (K.inv (steps K mean cs a)) (K.mul g (steps K mean cs b)) (Some by)) → (cs' : List (Cell S)) → length cs' ≡ length cs → (Movable K n (roots cs) (steps K mean cs) (get_or cs a da).root (mean by) → Moved K n (roots cs) (steps K mean cs) (roots cs') (steps K mean cs') (get_or cs a da).root (get_or cs b db).root (mean by)) → Tying K mean (holding cs n) (tied K a b g) (Ok tt) (holding cs' n)
-      tie_joins by is cs' long moves =
-          tying_ok K mean cs n a b g (ha, hb) small cs' long
-          (λ ts t.
-          let ea = read_root cs a da (omega arith) in
-          let eb = read_root cs b db (omega arith) in
-          let et = (is (fits ts t)).1 in
-          tied_across K L mean cs n a b t.kept ha hb g small (two ne) (mean by) et _ _ ea eb cs' long
-          (moves (short_moved K L mean cs n a b t.kept ha hb g small (two ne) (mean by) et _ _ ea eb)))
-
+    module _ (ne : l.root ≡ r.root → ⊥) (o : Option S) (met : K.size g + K.size (mean r.step) ≤ limit → Composed K mean (K.inv (mean l.step)) (K.mul g (mean r.step)) o) where
       -- the bridging step is never too large
-      pub tie_over : (K.size g + K.size (steps K mean cs b) ≤ limit → Composed K mean (K.inv (steps K mean cs a)) (K.mul g (steps K mean cs b)) None) → Tying K mean (holding cs n) (tied K a b g) (Err (Contradiction a b)) (holding cs n)
-      tie_over is =
-          tying_clash K mean cs n a b g (ha, hb) small
+      pub tie_bridge : IsSome o
+      tie_bridge =
+          composes K mean (K.inv (mean l.step)) (K.mul g (mean r.step))
+          (bounded sl sr (λ x y. K.size (K.inv x) + K.size (K.mul g y)) (λ k. fits_bridge K L n (roots cs) (steps K mean cs) k.sound a b ha hb (two sl sr ne) g small k.few))
+          o (met fits)
+
+      pub tie_joins : (by : S) → o ≡ Some by → (ds : List (Cell S)) → length ds ≡ length (take n cs) → Relabelled K mean (take n cs) ds l.root r.root (mean by) → Tying K mean (holding cs n) (tied K a b g) (Ok tt) (holding (ds ++ drop n cs) n)
+      tie_joins by some ds long moves =
+          let is = of_cells sl sr (λ x y. Composed K mean (K.inv x) (K.mul g y) (Some by)) (rw some at (met fits)) in
+          let whole = same_length n cs ds long in
+          tying_ok K mean cs n a b g (ha, hb) small (ds ++ drop n cs) whole
           (λ ts t.
-          let over = is (fits ts t) in
-          let f = fits_bridge K L n (roots cs) (steps K mean cs) t.kept.sound a b ha hb (two ne) g small t.kept.few in
-          absurd (omega arith))
+          tied_across K L mean cs n a b t.kept ha hb g small (two sl sr ne) (mean by) is.1 _ _ sl.root sr.root (ds ++ drop n cs) whole
+          (moved_first K mean cs n room ds l.root r.root (mean by) long moves
+          (short_moved K L mean cs n a b t.kept ha hb g small (two sl sr ne) (mean by) is.1 _ _ sl.root sr.root)))
 
-  module _ (out : S) where
-    pub ask_apart : ((get_or cs a da).root ≡ (get_or cs b db).root → ⊥) → Asking K mean (holding cs n) a b out (Ok false) out (holding cs n)
-    ask_apart ne = asking_no K mean (holding cs n) a b out (ha, hb) (λ ts t l. two ne (t.joined a b ha hb l))
+  module _ (il : l ≡ get_or cs a l) (ir : r ≡ get_or cs b r) where
+    al : Stands K mean cs a l
+    al = stands K mean cs a l (omega arith) il
 
-    pub ask_joined : (get_or cs a da).root ≡ (get_or cs b db).root → (step : S) → Composed K mean (steps K mean cs a) (K.inv (steps K mean cs b)) (Some step) → Asking K mean (holding cs n) a b out (Ok true) step (holding cs n)
-    ask_joined e step is =
-        asking_yes K mean (holding cs n) a b out (ha, hb) step
-        (λ ts t. t.linked a b ha hb (one e))
-        (λ ts t. way_exact K L mean cs n a b ts t ha hb (mean step) (one e) is.1)
+    ar : Stands K mean cs b r
+    ar = stands K mean cs b r (omega arith) ir
 
-    -- the step between two points is never too large
-    pub ask_over : Composed K mean (steps K mean cs a) (K.inv (steps K mean cs b)) None → Asking K mean (holding cs n) a b out (Ok false) out (holding cs n)
-    ask_over over =
-        asking_no K mean (holding cs n) a b out (ha, hb)
-        (λ ts t _.
-        let s = pair_size K L n (roots cs) (steps K mean cs) t.kept.sound t.kept.few a b ha hb in
-        let i = L.size_inv (steps K mean cs b) in
-        omega arith)
+    pub ask_apart : (l.root ≡ r.root → ⊥) → Asking K mean (holding cs n) a b (Ok None) (holding cs n)
+    ask_apart ne = asking_no K mean (holding cs n) a b (ha, hb) (λ ts t j. two al ar ne (t.joined a b ha hb j))
+
+    module _ (o : Option S) (met : Composed K mean (mean l.step) (K.inv (mean r.step)) o) where
+      -- the step between two points is never too large
+      pub ask_way : IsSome o
+      ask_way =
+          composes K mean (mean l.step) (K.inv (mean r.step))
+          (bounded al ar (λ x y. K.size x + K.size (K.inv y))
+          (λ k. let s = pair_size K L n (roots cs) (steps K mean cs) k.sound k.few a b ha hb in let i = L.size_inv (steps K mean cs b) in omega arith))
+          o met
+
+      pub ask_joined : l.root ≡ r.root → (step : S) → o ≡ Some step → Asking K mean (holding cs n) a b (Ok (Some step)) (holding cs n)
+      ask_joined e step some =
+          let is = of_cells al ar (λ x y. Composed K mean x (K.inv y) (Some step)) (rw some at met) in
+          asking_yes K mean (holding cs n) a b (ha, hb) step
+          (λ ts t. t.linked a b ha hb (one al ar e))
+          (λ ts t. way_exact K L mean cs n a b ts t ha hb (mean step) (one al ar e) is.1)

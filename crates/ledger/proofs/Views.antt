@@ -1,6 +1,10 @@
 -- Reads and writes of cells, through `at`. Assumes nothing.
 use Rattle.std.proofs.Common.{◌≡◌, ℕ, zero, suc, ◌<◌, List, [], ◌∷◌, length, get_or, set, refl, ap, le_of_suc-le-suc, not-suc-le-zero}
+use Rattle.ledger.specs.declared.cells.Cell.{Cell}
 use Rattle.ledger.specs.Trees.{at}
+
+abbrev pub cell : {S : Type 0} → ℕ → S → Cell S
+cell r s = record { root = r; step = s }
 
 module _ {X Y : Type 0} (f : X → Y) (d : Y) where
   pub at-get_or : (xs : List X) (k : ℕ) (e : X) → k < length xs → at f d xs k ≡ f (get_or xs k e)

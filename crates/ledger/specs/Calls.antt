@@ -1,5 +1,5 @@
 -- What each call of a ledger answers, and what the ledger then holds. Assumes nothing.
-use Rattle.std.specs.Prelude.{◌≡◌, ℕ, ◌+◌, ◌<◌, ◌≤◌, Bool, true, false, List, [], ◌∷◌, length, is_ok, Ok, Err, Result, ◌≢◌}
+use Rattle.std.specs.Prelude.{◌≡◌, ℕ, ◌+◌, ◌<◌, ◌≤◌, Bool, true, false, List, [], ◌∷◌, length, is_ok, Ok, Err, Some, None, Result, Option}
 use Rattle.steps.specs.Kind.{Kind}
 use Rattle.ledger.specs.declared.cells.Cell.{Cell}
 use Rattle.ledger.specs.declared.faults.Fault.{Fault}
@@ -41,7 +41,7 @@ pub record TieChecks (K : Kind) (n : ℕ) (t : Tie K) (r : Result (Unit {0}) Fau
 abbrev pub Past : (K : Kind) → ℕ → Tie K → Type 0
 Past K n t = Both n t.left t.right × (K.size t.by ≤ K.most)
 
--- a tie past these checks, where the ties ts were accepted before
+-- a tie past these checks, where the ties ts were accepted before: these ties, by name, where the type of a ledger says only that it tells of some
 pub record TieVerdict (K : Kind) (n : ℕ) (ts : List (Tie K)) (t : Tie K) (r : Result (Unit {0}) Fault) : Type 0 where
   -- 11 exactly when no values satisfy it and every accepted tie
   pub clash : Past K n t → Exactly (code r ≡ 11) ((v : ℕ → K.Element) → Satisfies K v (t ∷ ts) → ⊥)
@@ -53,21 +53,28 @@ abbrev pub after : (K : Kind) → List (Tie K) → Tie K → Result (Unit {0}) F
 after K ts t (Ok u) = t ∷ ts
 after K ts t (Err e) = ts
 
--- ask, where there are n points, whatever was tied before
-pub record AskChecks (n a b : ℕ) (r : Result Bool Fault) : Type 0 where
+-- between, where there are n points, whatever was tied before
+pub record AskChecks {A : Type 0} (n a b : ℕ) (r : Result A Fault) : Type 0 where
   -- 5 exactly when one of the two is no point
   pub outside : Exactly (code r ≡ 5) (Both n a b → ⊥)
   -- a refusal names the two
   pub names : is_ok r ≡ false → named r ≡ (a, b)
 
+-- what ask tells, as the step or none: its answer, with what is then in the place
+abbrev pub told : {S : Type 0} → Result Bool Fault → S → Result (Option S) Fault
+told (Ok true) out = Ok (Some out)
+told (Ok false) out = Ok None
+told (Err e) out = Err e
+
+-- of any kind and meaning: what follows knows nothing of the trait that has them
 module _ (K : Kind) {S : Type 0} (mean : S → K.Element) where
-  -- ask, where the ties ts were accepted before, and the place holds `out` after it
-  pub record AskVerdict (n : ℕ) (ts : List (Tie K)) (a b : ℕ) (out : S) (r : Result Bool Fault) : Type 0 where
+  -- between, where the ties ts were accepted before
+  pub record AskVerdict (n : ℕ) (ts : List (Tie K)) (a b : ℕ) (r : Result (Option S) Fault) : Type 0 where
     -- whether a chain of ties joins the points
-    pub yes : Both n a b → Exactly (r ≡ Ok true) (Linked K ts a b)
-    pub no : Both n a b → Exactly (r ≡ Ok false) (Linked K ts a b → ⊥)
-    -- then `out` is the one step that ties a to b whatever values satisfy the ties
-    pub step : r ≡ Ok true → (g : K.Element) → Exactly (K.same (mean out) g) ((v : ℕ → K.Element) → Satisfies K v ts → Holds K v (tied K a b g))
+    pub yes : Both n a b → Exactly ((s : S) × (r ≡ Ok (Some s))) (Linked K ts a b)
+    pub no : Both n a b → Exactly (r ≡ Ok None) (Linked K ts a b → ⊥)
+    -- then the step is the one that ties a to b whatever values satisfy the ties
+    pub step : (s : S) → r ≡ Ok (Some s) → (g : K.Element) → Exactly (K.same (mean s) g) ((v : ℕ → K.Element) → Satisfies K v ts → Holds K v (tied K a b g))
 
   -- the calls: the ledger holds s before and s' after
   pub record Made (cs : List (Cell S)) (s : Contents S) : Type 0 where
@@ -89,9 +96,7 @@ module _ (K : Kind) {S : Type 0} (mean : S → K.Element) where
     pub verdict : (ts : List (Tie K)) → Tells K mean s ts → TieVerdict K s.len ts t r
     pub tells : (ts : List (Tie K)) → Tells K mean s ts → Tells K mean s' (after K ts t r)
 
-  pub record Asking (s : Contents S) (a b : ℕ) (out : S) (r : Result Bool Fault) (out' : S) (s' : Contents S) : Type 0 where
+  pub record Asking (s : Contents S) (a b : ℕ) (r : Result (Option S) Fault) (s' : Contents S) : Type 0 where
     pub unchanged : s' ≡ s
-    -- the place is left as it was unless the answer is yes
-    pub left : (r ≢ Ok true) → out' ≡ out
     pub checks : AskChecks s.len a b r
-    pub verdict : (ts : List (Tie K)) → Tells K mean s ts → AskVerdict s.len ts a b out' r
+    pub verdict : (ts : List (Tie K)) → Tells K mean s ts → AskVerdict s.len ts a b r

@@ -2,8 +2,6 @@
 use Rattle.std.specs.Prelude.{◌≡◌, ℕ, ◌<◌, ◌≤◌, List, length}
 use Rattle.steps.specs.Kind.{Kind}
 use Rattle.ledger.specs.declared.cells.Cell.{Cell}
-use Rattle.ledger.specs.declared.forest.Forest.{Forest}
-use Rattle.ledger.specs.declared.lent.Ledger.{Ledger}
 use Rattle.ledger.specs.Limits.{most_points}
 use Rattle.ledger.specs.Trees.{roots, steps, Sound, Fits}
 use Rattle.ledger.specs.Ties.{Tie, Satisfies, Within, Linked}
@@ -15,12 +13,6 @@ pub record Contents (S : Type 0) : Type 0 where
 
 abbrev pub holding : {S : Type 0} → List (Cell S) → ℕ → Contents S
 holding cs n = record { cells = cs; len = n }
-
-abbrev pub planted : {S : Type 0} → Forest S → Contents S
-planted f = holding f.cells.now f.len
-
-abbrev pub contents : {S : Type 0} → Ledger S → Contents S
-contents l = planted l.forest
 
 module _ (K : Kind) {S : Type 0} (mean : S → K.Element) where
   -- the first n cells hold n points in trees
@@ -43,3 +35,7 @@ module _ (K : Kind) {S : Type 0} (mean : S → K.Element) where
     -- two points have one root exactly when a chain of ties joins them
     pub linked : (p q : ℕ) → p < s.len → q < s.len → roots s.cells p ≡ roots s.cells q → Linked K ts p q
     pub joined : (p q : ℕ) → p < s.len → q < s.len → Linked K ts p q → roots s.cells p ≡ roots s.cells q
+
+  -- of some ties
+  abbrev pub TellsSome : Contents S → Type 0
+  TellsSome s = (ts : List (Tie K)) × Tells s ts

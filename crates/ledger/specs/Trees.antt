@@ -1,7 +1,11 @@
 -- How cells hold ties: the points of a tree hang on its root, each by a step. Assumes nothing.
-use Rattle.std.specs.Prelude.{◌≡◌, ℕ, zero, suc, ◌+◌, ◌*◌, ◌<◌, ◌≤◌, cond, List, [], ◌∷◌, ◌==◌, ◌≢◌}
+use Rattle.std.specs.Prelude.{◌≡◌, ℕ, zero, suc, ◌+◌, ◌*◌, ◌<◌, ◌≤◌, cond, List, [], ◌∷◌, length, ◌==◌, ◌≢◌}
 use Rattle.steps.specs.Kind.{Kind, limit}
 use Rattle.ledger.specs.declared.cells.Cell.{Cell}
+
+-- a cell that was lent to no ledger yet
+abbrev pub Blank : (K : Kind) {S : Type 0} (mean : S → K.Element) → Cell S → Type 0
+Blank K mean c = (c.root ≡ 0) × K.same (mean c.step) K.one
 
 -- `f` of the element at `k`, and `d` past the end
 abbrev pub at : {X Y : Type 0} → (X → Y) → Y → List X → ℕ → Y
@@ -51,6 +55,12 @@ pub record Moved (K : Kind) (n : ℕ) (root : ℕ → ℕ) (step : ℕ → K.Ele
   pub along : (p : ℕ) → p < n → root p ≡ from → K.same (step' p) (K.mul (step p) by)
   pub stays : (p : ℕ) → p < n → (root p ≢ from) → root' p ≡ root p
   pub keeps : (p : ℕ) → p < n → (root p ≢ from) → step' p ≡ step p
+
+-- all of the cells cs are moved so, to become ds, where that can be done
+abbrev pub Relabelled : (K : Kind) {S : Type 0} (mean : S → K.Element) (cs ds : List (Cell S)) (from to : ℕ) (by : K.Element) → Type 0
+Relabelled K mean cs ds from to by =
+    Movable K (length cs) (roots cs) (steps K mean cs) from by
+    → Moved K (length cs) (roots cs) (steps K mean cs) (roots ds) (steps K mean ds) from to by
 
 -- the same of the cell of a point, c before and c' after
 pub record CellMoved (K : Kind) {S : Type 0} (mean : S → K.Element) (c c' : Cell S) (from to : ℕ) (by : K.Element) : Type 0 where

@@ -1,8 +1,9 @@
 // Cells, the memory of a ledger: a point hangs by one step on the root of its tree.
-ghost use Rattle.std.specs.Prelude.{◌≡◌, ◌+◌, ◌<◌, ◌≤◌, length};
+ghost use Rattle.std.specs.Prelude.{◌≡◌, ◌+◌, ◌≤◌, IfOk, vec_len, All};
 ghost use Rattle.steps.specs.Kind.{Composed, Decides, limit};
-ghost use Rattle.ledger.specs.Trees.{CellMoved, steps};
+ghost use Rattle.ledger.specs.Trees.{Blank, CellMoved};
 
+use std::alloc::{AllocError, Global};
 use steps::Step;
 
 #[derive(Drop)]
@@ -23,6 +24,14 @@ impl<S: Step> Cell<S> {
         }
     }
 
+    // So many cells to lend to a ledger.
+    pub fn blanks(heap: Global, count: usize) -> Result<Vec<Cell<S>>, AllocError>
+        ensures many { IfOk result (λ cells. vec_len cells ≡ count) }
+        ensures blank { IfOk result (λ cells. All (Blank S.kind S.meaning) cells.items) }
+    {
+        (0..count).map(|_| Cell::blank()).collect(heap)
+    }
+
     // Moves the point to the root `to` along `by`, if it hangs on `from` and its step is not too large for that.
     pub(crate) fn move_from(&mut self, from: usize, to: usize, by: &S)
         ensures { CellMoved S.kind S.meaning self.old self.new from to (S.meaning by.now) }
@@ -33,47 +42,29 @@ impl<S: Step> Cell<S> {
             }
         }
     }
-}
 
-// The step from b to a, points of one tree; none where it would be too large.
-pub(crate) fn way<S: Step>(cells: &[Cell<S>], a: usize, b: usize) -> Option<S>
-    requires left { a < length cells.now }
-    requires right { b < length cells.now }
-    ensures { Composed S.kind S.meaning (steps S.kind S.meaning cells.now a) (S.kind.inv (steps S.kind S.meaning cells.now b)) result }
-{
-    let back = cells[b].step.inverse();
-    cells[a].step.compose(&back)
-}
-
-// Whether g is the step from b to a, points of one tree.
-pub(crate) fn holds<S: Step>(cells: &[Cell<S>], a: usize, b: usize, g: &S) -> bool
-    requires left { a < length cells.now }
-    requires right { b < length cells.now }
-    ensures { S.kind.size (S.meaning g.now) + S.kind.size (steps S.kind S.meaning cells.now b) ≤ limit → Decides result (S.kind.same (steps S.kind S.meaning cells.now a) (S.kind.mul (S.meaning g.now) (steps S.kind S.meaning cells.now b))) }
-{
-    match g.compose(&cells[b].step) {
-        Some(step) => cells[a].step.equals(&step),
-        None => false,
+    // The step to this point from another of its tree; none where it would be too large.
+    pub(crate) fn way_from(&self, other: &Cell<S>) -> Option<S>
+        ensures { Composed S.kind S.meaning (S.meaning self.now.step) (S.kind.inv (S.meaning other.now.step)) result }
+    {
+        self.step.compose(&other.step.inverse())
     }
-}
 
-// The inverse of a's step after `step`; none where it would be too large.
-fn undone<S: Step>(cells: &[Cell<S>], a: usize, step: &S) -> Option<S>
-    requires { a < length cells.now }
-    ensures { Composed S.kind S.meaning (S.kind.inv (steps S.kind S.meaning cells.now a)) (S.meaning step.now) result }
-{
-    let back = cells[a].step.inverse();
-    back.compose(step)
-}
+    // Whether g is the step to this point from another of its tree.
+    #[tactic(auto, using(crate::proofs::Ways::compared))]
+    pub(crate) fn is_by(&self, other: &Cell<S>, g: &S) -> bool
+        ensures { S.kind.size (S.meaning g.now) + S.kind.size (S.meaning other.now.step) ≤ limit → Decides result (S.kind.same (S.meaning self.now.step) (S.kind.mul (S.meaning g.now) (S.meaning other.now.step))) }
+    {
+        g.compose(&other.step)
+            .is_some_and(|step| self.step.equals(&step))
+    }
 
-// The step between the roots of two trees that a tie of a to b by g asks for; none where it would be too large.
-pub(crate) fn bridge<S: Step>(cells: &[Cell<S>], a: usize, b: usize, g: &S) -> Option<S>
-    requires left { a < length cells.now }
-    requires right { b < length cells.now }
-    ensures { S.kind.size (S.meaning g.now) + S.kind.size (steps S.kind S.meaning cells.now b) ≤ limit → Composed S.kind S.meaning (S.kind.inv (steps S.kind S.meaning cells.now a)) (S.kind.mul (S.meaning g.now) (steps S.kind S.meaning cells.now b)) result }
-{
-    match g.compose(&cells[b].step) {
-        Some(step) => undone(cells, a, &step),
-        None => None,
+    // The step between the roots of two trees that a tie of this point to the other by g asks for; none where it would be too large.
+    #[tactic(auto, using(crate::proofs::Ways::composed_same))]
+    pub(crate) fn bridge(&self, other: &Cell<S>, g: &S) -> Option<S>
+        ensures { S.kind.size (S.meaning g.now) + S.kind.size (S.meaning other.now.step) ≤ limit → Composed S.kind S.meaning (S.kind.inv (S.meaning self.now.step)) (S.kind.mul (S.meaning g.now) (S.meaning other.now.step)) result }
+    {
+        let there = g.compose(&other.step)?;
+        self.step.inverse().compose(&there)
     }
 }

@@ -1,8 +1,11 @@
 // Why a ledger refuses a call.
-ghost use Rattle.std.specs.Prelude.{◌≡◌};
-ghost use Rattle.ledger.specs.Faults.{refusal};
+ghost use Rattle.std.specs.Prelude.{◌≡◌, Some};
+ghost use Rattle.ledger.specs.Faults.{refusal, refusal_text};
 
-#[derive(Clone, Copy)]
+use std::error::Error;
+use std::fmt;
+
+#[derive(Clone, Copy, Debug, PartialEq, Eq, Hash)]
 pub enum Fault {
     // the memory is used up, or there are 512 points
     Full,
@@ -15,6 +18,7 @@ pub enum Fault {
 }
 
 impl Fault {
+    // The number belongs to the formats: refusals are told by it outside of the program.
     pub fn number(self) -> u8
         ensures { result ≡ (refusal self).number }
     {
@@ -26,7 +30,7 @@ impl Fault {
         }
     }
 
-    // The two points that the refused call was given; zeros for `Full`.
+    // The two points that the refused call was given; zeros for `Full`, as the formats have it.
     pub fn points(self) -> (usize, usize)
         ensures { result ≡ ((refusal self).first, (refusal self).second) }
     {
@@ -38,3 +42,15 @@ impl Fault {
         }
     }
 }
+
+impl fmt::Display for Fault {
+    ghost output = { λ fault. Some (refusal_text fault) };
+
+    fn fmt<W: fmt::Write>(&self, f: &mut fmt::Formatter<W>) -> fmt::Result {
+        let number = self.number();
+        let (a, b) = self.points();
+        write!(f, "refused {number} at {a} and {b}")
+    }
+}
+
+impl Error for Fault {}

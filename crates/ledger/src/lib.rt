@@ -3,7 +3,6 @@
 
 mod cells;
 mod faults;
-mod forest;
 mod lent;
 
 pub use cells::Cell;

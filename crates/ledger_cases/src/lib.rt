@@ -1,4 +1,4 @@
-// What callers of a ledger may count on, shown from the contracts alone.
+// What callers of a ledger may count on, shown from the contracts alone: two examples, of readings and of conversions, each with its theorem.
 #![tactic(auto)]
 
 ghost use Rattle.std.specs.Prelude.{◌≡◌, ◌<◌, ◌≤◌, length, Err};

@@ -5,33 +5,13 @@ use std::alloc::{AllocError, Global};
 use std::test::Fail;
 use steps::Phase;
 
-// The number and the points of a refusal, zeros where there is none.
-pub(crate) fn refusal(r: Result<(), Fault>) -> (u8, usize, usize) {
-    match r {
-        Ok(()) => (0, 0, 0),
-        Err(fault) => {
-            let (a, b) = fault.points();
-            (fault.number(), a, b)
-        }
-    }
-}
-
-fn memory(heap: Global, cells: usize) -> Result<Vec<Cell<Phase>>, AllocError> {
-    let mut memory = Vec::new(heap);
-    for _ in 0..cells {
-        memory.push(Cell::blank())?;
-    }
-    Ok(memory)
-}
-
 // How many points a ledger over so many cells takes before it is full.
 fn most_points(heap: Global, cells: usize) -> Result<usize, AllocError> {
-    let mut memory = memory(heap, cells)?;
+    let mut memory = Cell::<Phase>::blanks(heap, cells)?;
     let mut ledger = Ledger::make(&mut memory);
     for n in 0..1000 {
-        match ledger.point() {
-            Ok(_) => {}
-            Err(_) => return Ok(n),
+        if ledger.point().is_err() {
+            return Ok(n);
         }
     }
     Ok(1000)
@@ -40,13 +20,22 @@ fn most_points(heap: Global, cells: usize) -> Result<usize, AllocError> {
 #[test]
 fn last_of_three_is_refused(rt: HostRuntime) {
     let mut cells = [Cell::blank(), Cell::blank(), Cell::blank()];
-    assert_eq!(rt; refusal(three_readings(&mut cells)), (11, 0, 2));
+    assert_eq!(rt; three_readings(&mut cells), Err(Fault::Contradiction(0, 2)));
 }
 
 #[test]
 fn no_third_point_in_two_cells(rt: HostRuntime) {
     let mut cells = [Cell::blank(), Cell::blank()];
-    assert_eq!(rt; refusal(three_readings(&mut cells)), (5, 0, 2));
+    assert_eq!(rt; three_readings(&mut cells), Err(Fault::NoPoint(0, 2)));
+}
+
+#[test]
+fn faults_have_numbers_and_points(rt: HostRuntime) {
+    let told = |fault: Fault| (fault.number(), fault.points());
+    assert_eq!(rt; told(Fault::Full), (4, (0, 0)));
+    assert_eq!(rt; told(Fault::NoPoint(0, 4)), (5, (0, 4)));
+    assert_eq!(rt; told(Fault::TooLarge(2, 0)), (7, (2, 0)));
+    assert_eq!(rt; told(Fault::Contradiction(39, 0)), (11, (39, 0)));
 }
 
 #[test]
@@ -60,54 +49,82 @@ fn full_at_the_memory_or_512(rt: HostRuntime) -> Result<(), Fail> {
 }
 
 #[test]
-fn points_are_numbered_in_turn(rt: HostRuntime) -> Result<(), Fail> {
-    let mut cells = [Cell::blank(), Cell::blank()];
-    let mut ledger: Ledger<Phase> = Ledger::make(&mut cells);
-    for expected in 0..2 {
-        match ledger.point() {
-            Ok(n) => assert_eq!(rt; n, expected),
-            Err(_) => return Err(Fail::new("full too early")),
-        }
-    }
-    match ledger.point() {
-        Ok(_) => Err(Fail::new("no third cell")),
-        Err(fault) => {
-            assert_eq!(rt; (fault.number(), fault.points()), (4, (0, 0)));
-            Ok(())
-        },
-    }
-}
-
-// What is asked, as the answer and what then is in the place.
-fn asked(ledger: &Ledger<Phase>, a: usize, b: usize, place: Phase) -> (u8, bool) {
-    let mut out = place;
-    let answer = match ledger.ask(a, b, &mut out) {
-        Ok(joined) => { if joined { 1 } else { 0 } }
-        Err(fault) => fault.number(),
-    };
-    let turned = match out {
-        Phase::Same => false,
-        Phase::Opposite => true,
-    };
-    (answer, turned)
+fn blank_cells_are_as_many_as_asked(rt: HostRuntime) -> Result<(), Fail> {
+    assert_eq!(rt; Cell::<Phase>::blanks(rt.alloc(), 0)?.len(), 0);
+    assert_eq!(rt; Cell::<Phase>::blanks(rt.alloc(), 40)?.len(), 40);
+    Ok(())
 }
 
 #[test]
-fn chains_answer_for_their_ends(rt: HostRuntime) {
+fn points_are_numbered_in_turn(rt: HostRuntime) {
+    let mut cells = [Cell::blank(), Cell::blank()];
+    let mut ledger: Ledger<Phase> = Ledger::make(&mut cells);
+    for expected in 0..2 {
+        assert_eq!(rt; ledger.point(), Ok(expected));
+    }
+    assert_eq!(rt; ledger.point(), Err(Fault::Full));
+}
+
+// What is asked, as the answer and what then is in the place.
+fn asked(ledger: &Ledger<Phase>, a: usize, b: usize, place: Phase) -> (Result<bool, Fault>, Phase) {
+    let mut out = place;
+    (ledger.ask(a, b, &mut out), out)
+}
+
+#[test]
+fn chains_answer_for_their_ends(rt: HostRuntime) -> Result<(), Fail> {
     let mut cells = [Cell::blank(), Cell::blank(), Cell::blank(), Cell::blank()];
     let mut ledger = Ledger::make(&mut cells);
     for _ in 0..4 {
-        let _ = ledger.point();
+        ledger.point()?;
     }
-    assert_eq!(rt; refusal(ledger.tie(0, 1, &Phase::Opposite)), (0, 0, 0));
-    assert_eq!(rt; refusal(ledger.tie(2, 1, &Phase::Opposite)), (0, 0, 0));
-    assert_eq!(rt; asked(&ledger, 0, 2, Phase::Opposite), (1, false));
-    assert_eq!(rt; asked(&ledger, 1, 2, Phase::Same), (1, true));
-    assert_eq!(rt; asked(&ledger, 3, 3, Phase::Opposite), (1, false));
-    assert_eq!(rt; asked(&ledger, 0, 3, Phase::Opposite), (0, true));
-    assert_eq!(rt; asked(&ledger, 0, 4, Phase::Opposite), (5, true));
-    assert_eq!(rt; refusal(ledger.tie(2, 0, &Phase::Opposite)), (11, 2, 0));
-    assert_eq!(rt; refusal(ledger.tie(4, 0, &Phase::Same)), (5, 4, 0));
-    assert_eq!(rt; asked(&ledger, 0, 2, Phase::Opposite), (1, false));
-    assert_eq!(rt; refusal(ledger.tie(2, 0, &Phase::Same)), (0, 0, 0));
+    assert_eq!(rt; ledger.tie(0, 1, &Phase::Opposite), Ok(()));
+    assert_eq!(rt; ledger.tie(2, 1, &Phase::Opposite), Ok(()));
+    assert_eq!(rt;
+        asked(&ledger, 0, 2, Phase::Opposite),
+        (Ok(true), Phase::Same)
+    );
+    assert_eq!(rt;
+        asked(&ledger, 1, 2, Phase::Same),
+        (Ok(true), Phase::Opposite)
+    );
+    assert_eq!(rt;
+        asked(&ledger, 3, 3, Phase::Opposite),
+        (Ok(true), Phase::Same)
+    );
+    assert_eq!(rt;
+        asked(&ledger, 0, 3, Phase::Opposite),
+        (Ok(false), Phase::Opposite)
+    );
+    let outside = Err(Fault::NoPoint(0, 4));
+    assert_eq!(rt;
+        asked(&ledger, 0, 4, Phase::Opposite),
+        (outside, Phase::Opposite)
+    );
+    assert_eq!(rt;
+        ledger.tie(2, 0, &Phase::Opposite),
+        Err(Fault::Contradiction(2, 0))
+    );
+    assert_eq!(rt; ledger.tie(4, 0, &Phase::Same), Err(Fault::NoPoint(4, 0)));
+    assert_eq!(rt;
+        asked(&ledger, 0, 2, Phase::Opposite),
+        (Ok(true), Phase::Same)
+    );
+    assert_eq!(rt; ledger.tie(2, 0, &Phase::Same), Ok(()));
+    Ok(())
+}
+
+#[test]
+fn the_step_between_two_points(rt: HostRuntime) -> Result<(), Fail> {
+    let mut cells = [Cell::blank(), Cell::blank(), Cell::blank()];
+    let mut ledger = Ledger::make(&mut cells);
+    for _ in 0..3 {
+        ledger.point()?;
+    }
+    ledger.tie(0, 1, &Phase::Opposite)?;
+    assert_eq!(rt; ledger.between(0, 1), Ok(Some(Phase::Opposite)));
+    assert_eq!(rt; ledger.between(1, 1), Ok(Some(Phase::Same)));
+    assert_eq!(rt; ledger.between(0, 2), Ok(None));
+    assert_eq!(rt; ledger.between(3, 0), Err(Fault::NoPoint(3, 0)));
+    Ok(())
 }

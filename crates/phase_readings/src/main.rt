@@ -2,15 +2,14 @@
 #![tactic(auto)]
 
 ghost use Rattle.std.specs.Prelude.{◌≡◌};
-ghost use Rattle.ledger.specs.Tells.{contents};
+ghost use Rattle.ledger.specs.Views.{contents};
 ghost use Rattle.entries.specs.Outcomes.{Entered};
 ghost use Rattle.phase_readings.specs.Readings.{stated};
 ghost use Rattle.steps.specs.Phases.{phases, flips};
 
-use anyhow::anyhow;
-use entries::Outcome;
-use ledger::{Cell, Ledger};
-use std::alloc::{AllocError, Global};
+use anyhow::Context;
+use entries::{Entry, Standing, against, name};
+use ledger::{Cell, Fault, Ledger};
 use std::io;
 use steps::Phase;
 
@@ -26,7 +25,7 @@ const OUTPUTS: [&str; 8] = [
 ];
 
 // What a tester read between two outputs, which go by their places in `OUTPUTS`.
-#[derive(Clone, Copy)]
+#[derive(Clone, Copy, Debug, PartialEq, Eq)]
 struct Reading {
     output: usize,
     against: usize,
@@ -61,83 +60,45 @@ fn readings() -> [Reading; 10] {
     ]
 }
 
-// Memory for a ledger of all the outputs.
-fn memory(heap: Global) -> Result<Vec<Cell<Phase>>, AllocError> {
-    let mut cells = Vec::new(heap);
-    for _ in OUTPUTS {
-        cells.push(Cell::blank())?;
-    }
-    Ok(cells)
-}
-
 // Enters a reading, which is known where earlier ones say the same.
-fn enter(ledger: &mut Ledger<Phase>, reading: Reading) -> Outcome
+fn enter(ledger: &mut Ledger<Phase>, reading: Reading) -> Result<Entry, Fault>
     ensures { Entered phases flips (contents ledger.old) (stated reading) result (contents ledger.new) }
 {
     entries::enter(ledger, reading.output, reading.against, &reading.phase)
 }
 
-fn name(output: usize) -> &'static str {
-    match OUTPUTS.get(output) {
-        Some(name) => name,
-        None => "no output",
-    }
-}
-
-fn words(phase: Phase) -> &'static str {
-    match phase {
-        Phase::Same => "in phase",
-        Phase::Opposite => "opposite",
-    }
-}
-
-fn print_reading(rt: &impl Print, reading: Reading, outcome: Outcome) -> io::Result<()> {
-    let output = name(reading.output);
-    let against = name(reading.against);
-    let phase = words(reading.phase);
+// A line of the program's own, of what prints itself.
+fn print_reading(
+    rt: &impl Print,
+    reading: Reading,
+    outcome: Result<Entry, Fault>,
+) -> io::Result<()> {
+    let output = name(&OUTPUTS, reading.output);
+    let against = name(&OUTPUTS, reading.against);
+    let phase = reading.phase;
     match outcome {
-        Outcome::Noted => println!(rt; "{output} to {against}: {phase}, noted"),
-        Outcome::Known => println!(rt; "{output} to {against}: {phase}, known already"),
-        Outcome::Refused(fault) => {
-            let number = fault.number();
-            let (a, b) = fault.points();
-            println!(rt; "{output} to {against}: {phase}, refused {number} at {a} and {b}")
-        }
+        Ok(Entry::Noted) => println!(rt; "{output} to {against}: {phase}, noted"),
+        Ok(Entry::Known) => println!(rt; "{output} to {against}: {phase}, known already"),
+        Err(fault) => println!(rt; "{output} to {against}: {phase}, {fault}"),
     }
 }
 
-fn print_standing(rt: &impl Print, ledger: &Ledger<Phase>, output: usize) -> io::Result<()> {
-    let mut phase = Phase::Same;
-    let output_name = name(output);
-    match ledger.ask(output, 0, &mut phase) {
-        Ok(true) => {
-            let standing = words(phase);
-            println!(rt; "{output} {output_name}: {standing}")
-        }
-        _ => println!(rt; "{output} {output_name}: not known"),
-    }
-}
-
-fn run(rt: HostRuntime) -> anyhow::Result<()> {
-    let mut cells = memory(rt.alloc())?;
+// What this shares with the other program is one call each: the ledger's, and those of `entries`.
+fn main(rt: HostRuntime) -> anyhow::Result<()> {
+    let mut cells = Cell::blanks(rt.alloc(), OUTPUTS.len())?;
     let mut ledger = Ledger::make(&mut cells);
     for _ in OUTPUTS {
-        if ledger.point().is_err() {
-            return Err(anyhow!("no room for another output"));
-        }
+        ledger.point().context("no room for another output")?;
     }
     for reading in readings() {
         let outcome = enter(&mut ledger, reading);
         print_reading(&rt, reading, outcome)?;
     }
-    let first = name(0);
+    let first = name(&OUTPUTS, 0);
     println!(rt; "against {first}:")?;
-    for output in 0..OUTPUTS.len() {
-        print_standing(&rt, &ledger, output)?;
+    for (output, name) in OUTPUTS.iter().enumerate() {
+        let standing = Standing(against(&ledger, output, 0));
+        println!(rt; "{output} {name}: {standing}")?;
     }
     Ok(())
-}
-
-fn main(rt: HostRuntime) -> anyhow::Result<()> {
-    run(rt)
 }

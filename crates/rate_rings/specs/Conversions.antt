@@ -1,13 +1,14 @@
 -- What a conversion means, and what comes of entering it. Assumes nothing.
-use Rattle.std.specs.Prelude.{◌≡◌, ℕ, List, Option, MatchOption}
+use Rattle.std.specs.Prelude.{◌≡◌, Result, MatchResult}
 use Rattle.fractions.specs.Fractions.{Fraction, same}
 use Rattle.rates.specs.Rates.{rates, worth}
 use Rattle.rates.specs.Calls.{IsFactor}
 use Rattle.rates.specs.declared.rate.RateStep.{RateStep}
-use Rattle.ledger.specs.Ties.{Tie, tied, Holds, Satisfies, Linked}
-use Rattle.ledger.specs.Tells.{Contents, Tells}
-use Rattle.ledger.specs.Calls.{Exactly, Both}
-use Rattle.entries.specs.declared.Outcome.{Outcome}
+use Rattle.rates.specs.declared.rate.calls.NotAFactor.{NotAFactor}
+use Rattle.ledger.specs.Ties.{tied}
+use Rattle.ledger.specs.Tells.{Contents}
+use Rattle.ledger.specs.declared.faults.Fault.{Fault}
+use Rattle.entries.specs.declared.statements.Entry.{Entry}
 use Rattle.entries.specs.Outcomes.{Entered}
 use Rattle.rate_rings.specs.declared.Conversion.{Conversion}
 
@@ -21,18 +22,14 @@ abbrev pub NoFactors : Conversion → Type 0
 NoFactors c = IsFactor c.up → IsFactor c.down → ⊥
 
 -- the step of a conversion
-abbrev pub Converted : Conversion → Option RateStep → Type 0
-Converted c r = MatchOption r (NoFactors c) (λ s. Means c (worth s))
+abbrev pub Converted : Conversion → Result RateStep NotAFactor → Type 0
+Converted c r = MatchResult r (λ s. Means c (worth s)) (λ e. NoFactors c)
 
 -- it is entered as the tie of its signals by up over down
-pub record Stated (s : Contents RateStep) (c : Conversion) (o : Outcome) (s' : Contents RateStep) : Type 0 where
+pub record Stated (s : Contents RateStep) (c : Conversion) (o : Result Entry Fault) (s' : Contents RateStep) : Type 0 where
   pub by : Fraction
   pub means : Means c by
   pub entered : Entered rates worth s (tied rates c.signal c.of by) o s'
 
-abbrev pub Entering : Contents RateStep → Conversion → Option Outcome → Contents RateStep → Type 0
-Entering s c r s' = MatchOption r (NoFactors c × (s' ≡ s)) (λ o. Stated s c o s')
-
--- the rate of a point against another: nothing where no chain of ties joins them, and else the one that every choice of rates has
-abbrev pub Against : Contents RateStep → ℕ → ℕ → Option RateStep → Type 0
-Against s a b r = (ts : List (Tie rates)) → Tells rates worth s ts → MatchOption r (Both s.len a b → Linked rates ts a b → ⊥) (λ g. (x : Fraction) → Exactly (same (worth g) x) ((v : ℕ → Fraction) → Satisfies rates v ts → Holds rates v (tied rates a b x)))
+abbrev pub Entering : Contents RateStep → Conversion → Result (Result Entry Fault) NotAFactor → Contents RateStep → Type 0
+Entering s c r s' = MatchResult r (λ o. Stated s c o s') (λ e. NoFactors c × (s' ≡ s))

@@ -2,13 +2,15 @@
 #![tactic(auto)]
 
 ghost use Rattle.std.specs.Prelude.{◌≡◌};
-ghost use Rattle.ledger.specs.Tells.{contents};
-ghost use Rattle.rate_rings.specs.Conversions.{Converted, Entering, Against};
+ghost use Rattle.ledger.specs.Views.{contents};
+ghost use Rattle.entries.specs.Standings.{Against};
+ghost use Rattle.rates.specs.Rates.{rates, worth};
+ghost use Rattle.rate_rings.specs.Conversions.{Converted, Entering};
 
-use anyhow::anyhow;
-use entries::Outcome;
-use ledger::{Cell, Ledger};
-use rates::RateStep;
+use anyhow::Context;
+use entries::{Entry, Standing, against, name};
+use ledger::{Cell, Fault, Ledger};
+use rates::{NotAFactor, Overflow, RateStep};
 use std::alloc::{AllocError, Global};
 use std::io;
 use steps::Step;
@@ -25,7 +27,7 @@ const SIGNALS: [&str; 8] = [
 ];
 
 // The rate of a signal is up / down times that of another; signals go by their places in `SIGNALS`.
-#[derive(Clone, Copy)]
+#[derive(Clone, Copy, Debug, PartialEq, Eq)]
 struct Conversion {
     signal: usize,
     of: usize,
@@ -45,13 +47,15 @@ impl Conversion {
         }
     }
 
-    // The step of up / down; none unless both are factors.
-    fn step(&self) -> Option<RateStep>
+    // The step of up / down, where both are factors.
+    #[tactic(auto, using(crate::proofs::Converting::composes))]
+    fn step(&self) -> Result<RateStep, NotAFactor>
         ensures { Converted self.now result }
     {
-        let up = RateStep::from_factor(self.up)?;
-        let down = RateStep::from_factor(self.down)?;
-        up.compose(&down.inverse())
+        let up = RateStep::try_from(self.up)?;
+        let down = RateStep::try_from(self.down)?;
+        // steps of factors are small, and always compose
+        Ok(up.compose(&down.inverse()).unwrap())
     }
 }
 
@@ -70,104 +74,54 @@ fn conversions() -> [Conversion; 9] {
     ]
 }
 
-// Memory for a ledger of all the signals.
-fn memory(heap: Global) -> Result<Vec<Cell<RateStep>>, AllocError> {
-    let mut cells = Vec::new(heap);
-    for _ in SIGNALS {
-        cells.push(Cell::blank())?;
-    }
-    Ok(cells)
-}
-
-fn name(signal: usize) -> &'static str {
-    match SIGNALS.get(signal) {
-        Some(name) => name,
-        None => "no signal",
-    }
-}
-
-fn print_conversion(rt: &impl Print, conversion: Conversion, outcome: Outcome) -> io::Result<()> {
-    let Conversion { up, down, .. } = conversion;
-    let signal = name(conversion.signal);
-    let of = name(conversion.of);
-    match outcome {
-        Outcome::Noted => println!(rt; "{signal} at {up}/{down} of {of}: noted"),
-        Outcome::Known => println!(rt; "{signal} at {up}/{down} of {of}: closes a ring"),
-        Outcome::Refused(fault) => {
-            let number = fault.number();
-            let (a, b) = fault.points();
-            println!(rt; "{signal} at {up}/{down} of {of}: refused {number} at {a} and {b}")
-        }
-    }
-}
-
 // Enters a conversion; nothing comes of one whose numbers are no factors.
-fn enter(ledger: &mut Ledger<RateStep>, conversion: Conversion) -> Option<Outcome>
+fn enter(
+    ledger: &mut Ledger<RateStep>,
+    conversion: Conversion,
+) -> Result<Result<Entry, Fault>, NotAFactor>
     ensures { Entering (contents ledger.old) conversion result (contents ledger.new) }
 {
-    match conversion.step() {
-        Some(step) => Some(entries::enter(ledger, conversion.signal, conversion.of, &step)),
-        None => None,
+    let step = conversion.step()?;
+    Ok(entries::enter(ledger, conversion.signal, conversion.of, &step))
+}
+
+// A line of the program's own, of what prints itself.
+fn print_conversion(
+    rt: &impl Print,
+    conversion: Conversion,
+    outcome: Result<Entry, Fault>,
+) -> io::Result<()> {
+    let Conversion { up, down, .. } = conversion;
+    let signal = name(&SIGNALS, conversion.signal);
+    let of = name(&SIGNALS, conversion.of);
+    match outcome {
+        Ok(Entry::Noted) => println!(rt; "{signal} at {up}/{down} of {of}: noted"),
+        Ok(Entry::Known) => println!(rt; "{signal} at {up}/{down} of {of}: closes a ring"),
+        Err(fault) => println!(rt; "{signal} at {up}/{down} of {of}: {fault}"),
     }
 }
 
-// The rate of a signal against another, where conversions join them.
-fn against(ledger: &Ledger<RateStep>, signal: usize, of: usize) -> Option<RateStep>
-    ensures { Against (contents ledger.now) signal of result }
+// The rate of a signal against the first, where conversions join them.
+fn rate(ledger: &Ledger<RateStep>, signal: usize) -> Option<RateStep>
+    ensures { Against rates worth (contents ledger.now) signal 0 result }
 {
-    let mut step = <RateStep as Step>::unit();
-    match ledger.ask(signal, of, &mut step) {
-        Ok(joined) => { if joined { Some(step) } else { None } }
-        Err(_) => None,
-    }
-}
-
-fn print_rate(rt: &impl Print, signal: usize, rate: &RateStep) -> io::Result<()> {
-    let label = name(signal);
-    match rate.ratio() {
-        Ok((n, d)) => println!(rt; "{signal} {label}: {n}/{d}"),
-        Err(_) => println!(rt; "{signal} {label}: too large"),
-    }
+    against(ledger, signal, 0)
 }
 
 fn print_rates(rt: &impl Print, ledger: &Ledger<RateStep>) -> io::Result<()> {
     println!(rt; "rates against the stage box:")?;
-    for signal in 0..SIGNALS.len() {
-        match against(ledger, signal, 0) {
-            Some(rate) => print_rate(rt, signal, &rate)?,
-            None => {
-                let label = name(signal);
-                println!(rt; "{signal} {label}: not known")?;
-            }
-        }
+    for (signal, name) in SIGNALS.iter().enumerate() {
+        let rate = Standing(rate(ledger, signal));
+        println!(rt; "{signal} {name}: {rate}")?;
     }
     Ok(())
 }
 
 // The known rates against the first signal.
 fn known_rates(heap: Global, ledger: &Ledger<RateStep>) -> Result<Vec<RateStep>, AllocError> {
-    let mut rates = Vec::new(heap);
-    for signal in 0..SIGNALS.len() {
-        if let Some(step) = against(ledger, signal, 0) {
-            rates.push(step)?;
-        }
-    }
-    Ok(rates)
-}
-
-fn print_product(
-    rt: &impl Print,
-    signal: usize,
-    factor: &RateStep,
-    rate: &RateStep,
-) -> io::Result<()> {
-    match factor.compose(rate) {
-        Some(product) => print_rate(rt, signal, &product),
-        None => {
-            let label = name(signal);
-            println!(rt; "{signal} {label}: too large")
-        }
-    }
+    (0..SIGNALS.len())
+        .filter_map(|signal| rate(ledger, signal))
+        .collect(heap)
 }
 
 fn print_least_rates(
@@ -176,27 +130,27 @@ fn print_least_rates(
     factor: RateStep,
 ) -> io::Result<()> {
     println!(rt; "least natural rates:")?;
-    for signal in 0..SIGNALS.len() {
-        if let Some(step) = against(ledger, signal, 0) {
-            print_product(rt, signal, &factor, &step)?;
+    for (signal, name) in SIGNALS.iter().enumerate() {
+        if let Some(rate) = rate(ledger, signal) {
+            match factor.compose(&rate) {
+                Some(product) => println!(rt; "{signal} {name}: {product}")?,
+                None => println!(rt; "{signal} {name}: {Overflow}")?,
+            }
         }
     }
     Ok(())
 }
 
-fn run(rt: HostRuntime) -> anyhow::Result<()> {
-    let mut cells = memory(rt.alloc())?;
+// What this shares with the other program is one call each: the ledger's, and those of `entries`.
+fn main(rt: HostRuntime) -> anyhow::Result<()> {
+    let mut cells = Cell::blanks(rt.alloc(), SIGNALS.len())?;
     let mut ledger = Ledger::make(&mut cells);
     for _ in SIGNALS {
-        if ledger.point().is_err() {
-            return Err(anyhow!("no room for another signal"));
-        }
+        ledger.point().context("no room for another signal")?;
     }
     for conversion in conversions() {
-        match enter(&mut ledger, conversion) {
-            Some(outcome) => print_conversion(&rt, conversion, outcome)?,
-            None => return Err(anyhow!("a conversion by what is no factor")),
-        }
+        let outcome = enter(&mut ledger, conversion).context("a conversion by what is no factor")?;
+        print_conversion(&rt, conversion, outcome)?;
     }
     print_rates(&rt, &ledger)?;
     let rates = known_rates(rt.alloc(), &ledger)?;
@@ -204,8 +158,4 @@ fn run(rt: HostRuntime) -> anyhow::Result<()> {
         print_least_rates(&rt, &ledger, factor)?;
     }
     Ok(())
-}
-
-fn main(rt: HostRuntime) -> anyhow::Result<()> {
-    run(rt)
 }

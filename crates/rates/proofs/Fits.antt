@@ -1,9 +1,7 @@
 -- Which fractions have numbers that are not too large. Assumes nothing.
-use Rattle.std.proofs.Common.{◌≡◌, ℕ, ◌<◌, ◌≤◌, Bool, true, cond, List, map, ℤ, is_err, Some, None, Ok, Err, Option, Result, sym, ap, ◌∙◌, subst, arith}
+use Rattle.std.proofs.Common.{◌≡◌, ℕ, ◌<◌, ◌≤◌, List, map, ℤ, sym, ap, ◌∙◌, subst, arith}
 use native.Mathlib.Nat.{le_of_dvd}
 use borrow.Author.Differences.{up, down}
-use Rattle.std.specs.Option.{ok_or}
-use Rattle.fractions.specs.Fractions.{Fraction}
 use Rattle.fractions.specs.Powers.{product}
 use Rattle.fractions.specs.Exponents.{negated}
 use Rattle.fractions.specs.Reduced.{Reduced}
@@ -11,8 +9,7 @@ use Rattle.fractions.proofs.Exponents.{up_neg}
 use Rattle.fractions.proofs.Lowest.{reduced, multiples}
 use Rattle.rates.specs.Listed.{listed, largest_number}
 use Rattle.rates.specs.Rates.{rate}
-use Rattle.rates.specs.Calls.{Bounded, Fitting, Exceeding, Ratio}
-use Rattle.rates.specs.declared.rate.calls.Overflow.{Overflow}
+use Rattle.rates.specs.Calls.{Fitting, Exceeding}
 use Rattle.rates.specs.Primal.{all_prime}
 
 -- the numerator of the inverse is the denominator
@@ -35,17 +32,3 @@ fitting es fs n d e a b =
       top = a.0;
       bottom = b.0;
     }
-
--- an error says that the number is too large
-pub none_of : (k : ℕ) (o : Option ℕ) (t u : Overflow) (r : Result ℕ Overflow) → r ≡ ok_or o t → r ≡ Err u → Bounded k o → largest_number < k
-none_of k None t u r e f h = h
-none_of k (Some n) t u r e f h = let z : ◌≡◌ {A = ℕ} 0 1 = ap (λ (x : Result ℕ Overflow). cond (is_err x) 1 0) (sym e ∙ f) in absurd (omega arith)
-
--- and a value is the number
-pub some_of : (k : ℕ) (o : Option ℕ) (t : Overflow) (n : ℕ) (r : Result ℕ Overflow) → r ≡ ok_or o t → r ≡ Ok n → Bounded k o → (n ≤ largest_number) × (n ≡ k)
-some_of k None t n r e f h = let z : ◌≡◌ {A = ℕ} 0 1 = ap (λ (x : Result ℕ Overflow). cond (is_err x) 0 1) (sym e ∙ f) in absurd (omega arith)
-some_of k (Some m) t n r e f h = let z : m ≡ n = cc in subst (λ (x : ℕ). (x ≤ largest_number) × (x ≡ k)) z h
-
-pub refused : (x : Fraction) (r : Result (ℕ × ℕ) Overflow) → is_err r ≡ true → Exceeding x → Ratio x r
-refused x (Ok q) e u = let z : ◌≡◌ {A = ℕ} 0 1 = ap (λ (b : Bool). cond b 1 0) e in absurd (omega arith)
-refused x (Err t) e u = u

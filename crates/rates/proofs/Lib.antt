@@ -1,6 +1,6 @@
-pub mod Loops
 pub mod Ratios
 pub mod Worth
 pub mod Rows
 pub mod Fits
-pub mod Folds
+pub mod Arrays
+pub mod Words

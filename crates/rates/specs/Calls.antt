@@ -7,6 +7,7 @@ use Rattle.fractions.specs.Least.{Least}
 use Rattle.rates.specs.Listed.{listed, largest_factor, largest_tie, largest_number}
 use Rattle.rates.specs.Rates.{worth}
 use Rattle.rates.specs.declared.rate.RateStep.{RateStep}
+use Rattle.rates.specs.declared.rate.calls.NotAFactor.{NotAFactor}
 use Rattle.rates.specs.declared.rate.calls.Overflow.{Overflow}
 
 -- n is a factor
@@ -19,9 +20,9 @@ pub record Factor (n : ℕ) (s : RateStep) : Type 0 where
   pub means : same (worth s) (whole n is.0)
   pub ties : size listed (worth s) ≤ largest_tie
 
--- nothing exactly when n is no factor
-abbrev pub FromFactor : ℕ → Option RateStep → Type 0
-FromFactor n r = MatchOption r (IsFactor n → ⊥) (Factor n)
+-- refused exactly when n is no factor, with n in the error
+abbrev pub FromFactor : ℕ → Result RateStep NotAFactor → Type 0
+FromFactor n r = MatchResult r (Factor n) (λ e. (IsFactor n → ⊥) × (e.0 ≡ n))
 
 -- n itself, or nothing where it is too large
 abbrev pub Bounded : ℕ → Option ℕ → Type 0

@@ -1,5 +1,5 @@
 // Exponents, one for each listed prime.
-ghost use Rattle.std.specs.Prelude.{◌≡◌, ◌+◌, ◌≤◌, map, ◌+ℤ◌, neg_ℤ, unsigned_abs};
+ghost use Rattle.std.specs.Prelude.{EachIndex, get_or, pos, ◌≡◌, ◌+◌, ◌≤◌, map, ◌+ℤ◌, neg_ℤ, unsigned_abs};
 ghost use borrow.Author.Differences.{up};
 ghost use Rattle.std.specs.Int.{int_min};
 ghost use Rattle.steps.specs.Kind.{limit};
@@ -9,6 +9,7 @@ ghost use Rattle.rates.specs.Calls.{Bounded};
 ghost use Rattle.rates.specs.Listed.{listed};
 
 use crate::primes::{COUNT, PRIMES};
+use std::array;
 
 // The largest numerator or denominator.
 const LARGEST_NUMBER: u64 = 4294967295;
@@ -37,61 +38,55 @@ fn lesser(left: i32, right: i32) -> i32
 fn positive_part(exponent: i32) -> u32
     ensures { result ≡ up exponent }
 {
-    if exponent > 0 { exponent as u32 } else { 0 }
+    u32::try_from(exponent).unwrap_or(0)
 }
 
 // The largest exponent, without its sign.
 pub(crate) fn largest(exponents: &[i32; COUNT]) -> u32
     ensures { result ≡ norm exponents.now }
 {
-    let mut largest = 0;
-    for place in 0..COUNT {
-        largest = largest.max(exponents[place].unsigned_abs());
-    }
-    largest
+    let sizes = exponents.iter().map(|exponent| exponent.unsigned_abs());
+    sizes.max().unwrap_or(0)
+}
+
+// What the function gives of each two exponents of one prime.
+fn joined<F: Fn(i32, i32) -> i32>(
+    left: &[i32; COUNT],
+    right: &[i32; COUNT],
+    join: F,
+) -> [i32; COUNT]
+    requires { EachIndex left.now (λ i. F.pre join (get_or left.now i (pos 0)) (get_or right.now i (pos 0))) }
+    ensures { EachIndex left.now (λ i. F.post join (get_or left.now i (pos 0)) (get_or right.now i (pos 0)) (get_or result i (pos 0))) }
+{
+    array::from_fn(|i| join(left[i], right[i]))
 }
 
 pub(crate) fn sums(left: &[i32; COUNT], right: &[i32; COUNT]) -> [i32; COUNT]
     requires { norm left.now + norm right.now ≤ limit }
     ensures { result ≡ added left.now right.now }
 {
-    let mut sums = *left;
-    for i in 0..COUNT {
-        sums[i] = sum(sums[i], right[i]);
-    }
-    sums
+    joined(left, right, sum)
 }
 
 pub(crate) fn opposites(exponents: &[i32; COUNT]) -> [i32; COUNT]
     requires { norm exponents.now ≤ limit }
     ensures { result ≡ negated exponents.now }
 {
-    let mut opposites = *exponents;
-    for i in 0..COUNT {
-        opposites[i] = opposite(opposites[i]);
-    }
-    opposites
+    exponents.map(opposite)
 }
 
 // The lesser exponent of each prime.
 pub(crate) fn minima(left: &[i32; COUNT], right: &[i32; COUNT]) -> [i32; COUNT]
     ensures { result ≡ minima left.now right.now }
 {
-    let mut minima = *left;
-    for i in 0..COUNT {
-        minima[i] = lesser(minima[i], right[i]);
-    }
-    minima
+    joined(left, right, lesser)
 }
 
-// The number, where it is not too large.
+// The number, where it is not too large. The limit is a rule, and only happens to be that of `u32`: so no `try_from`.
 fn bounded(number: u64) -> Option<u32>
     ensures { Bounded number result }
 {
-    if number > LARGEST_NUMBER {
-        return None;
-    }
-    Some(number as u32)
+    (number <= LARGEST_NUMBER).then(|| number as u32)
 }
 
 // The product of the powers with positive exponents, where it is not too large.
@@ -99,8 +94,8 @@ pub(crate) fn product(exponents: &[i32; COUNT]) -> Option<u32>
     ensures { Bounded (powers listed (map up exponents.now)) result }
 {
     let mut product: u64 = 1;
-    for i in 0..COUNT {
-        let power = PRIMES[i].checked_pow(positive_part(exponents[i]))?;
+    for (prime, exponent) in PRIMES.iter().zip(exponents) {
+        let power = prime.checked_pow(positive_part(*exponent))?;
         product = product.checked_mul(power)?;
     }
     bounded(product)

@@ -6,7 +6,7 @@ mod factors;
 mod primes;
 mod rate;
 
-pub use rate::{Overflow, RateStep};
+pub use rate::{NotAFactor, Overflow, RateStep};
 
 #[cfg(test)]
 mod tests;

@@ -8,9 +8,9 @@ use crate::primes::COUNT;
 mod calls;
 mod kind;
 
-pub use calls::Overflow;
+pub use calls::{NotAFactor, Overflow};
 
-#[derive(Clone, Copy)]
+#[derive(Clone, Copy, Debug, PartialEq, Eq, Hash)]
 pub struct RateStep {
     exponents: [i32; COUNT],
     ghost within: { norm exponents ≤ limit },

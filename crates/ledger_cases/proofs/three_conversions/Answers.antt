@@ -1,5 +1,6 @@
 use Rattle.std.proofs.Common.{◌≡◌, ℕ, [], ◌∷◌, length, refl, ap, subst}
-use Rattle.ledger.specs.Tells.{Contents, contents}
+use Rattle.ledger.specs.Tells.{Contents}
+use Rattle.ledger.specs.Views.{contents}
 use Rattle.ledger.specs.Runs.{pointed, tying}
 use Rattle.rates.specs.Rates.{worth}
 use Rattle.rates.specs.declared.rate.RateStep.{RateStep}

@@ -1,6 +1,7 @@
 use Rattle.std.proofs.Common.{◌≡◌, [], ◌∷◌, length, refl, ap, arith}
 use Rattle.steps.specs.declared.phases.Phase.{Phase}
-use Rattle.ledger.specs.Tells.{Contents, contents}
+use Rattle.ledger.specs.Tells.{Contents}
+use Rattle.ledger.specs.Views.{contents}
 use Rattle.ledger.specs.Runs.{pointed, tying}
 use Rattle.ledger_cases.proofs.Triangle.{first, second, third, contradicts, no_third_point}
 use Rattle.ledger_cases.proofs.three_readings.Goals as goal

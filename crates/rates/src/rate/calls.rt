@@ -1,32 +1,74 @@
-// What rate steps give beyond the kind: steps from factors, ratios of whole numbers, and least natural rates.
-ghost use Rattle.std.specs.Prelude.{[], ◌∷◌, map};
+// What rate steps give beyond the kind: steps from factors, ratios of whole numbers, words, and least natural rates.
+ghost use Rattle.std.specs.Prelude.{[], ◌∷◌, ◌++◌, map, Some, codes, decimal};
 ghost use Rattle.fractions.specs.Least.{Measure};
 ghost use Rattle.rates.specs.Calls.{FromFactor, Ratio, LeastFactor};
 ghost use Rattle.rates.specs.Rates.{worth};
+ghost use Rattle.rates.specs.Printed.{words};
 
 use super::RateStep;
 use crate::factors::LARGEST_FACTOR;
 use crate::{exponents, factors};
+use std::error::Error;
+use std::fmt;
 use steps::Step;
 
+// A number that is no factor.
+#[derive(Clone, Copy, Debug, PartialEq, Eq, Hash)]
+pub struct NotAFactor(pub u32);
+
+impl fmt::Display for NotAFactor {
+    ghost output = { λ e. Some (decimal e.0 ++ codes " is no factor") };
+
+    fn fmt<W: fmt::Write>(&self, f: &mut fmt::Formatter<W>) -> fmt::Result {
+        write!(f, "{} is no factor", self.0)
+    }
+}
+
+impl Error for NotAFactor {}
+
 // A numerator or a denominator above 4294967295.
-#[derive(Clone, Copy)]
+#[derive(Clone, Copy, Debug, PartialEq, Eq, Hash)]
 pub struct Overflow;
 
-impl RateStep {
-    // The step of a factor from 1 to 64.
-    pub fn from_factor(factor: u32) -> Option<RateStep>
-        ensures { FromFactor factor result }
-    {
-        if factor < 1 || factor > LARGEST_FACTOR {
-            return None;
+impl fmt::Display for Overflow {
+    ghost output = { λ _. Some (codes "too large") };
+
+    fn fmt<W: fmt::Write>(&self, f: &mut fmt::Formatter<W>) -> fmt::Result {
+        f.write_str("too large")
+    }
+}
+
+impl Error for Overflow {}
+
+// The step of a factor from 1 to 64.
+impl TryFrom<u32> for RateStep {
+    type Error = NotAFactor;
+
+    ghost try_from_gives = { FromFactor };
+
+    fn try_from(factor: u32) -> Result<RateStep, NotAFactor> {
+        if !(1..=LARGEST_FACTOR).contains(&factor) {
+            return Err(NotAFactor(factor));
         }
-        let table = factors::table();
-        Some(RateStep {
-            exponents: table[factor as usize - 1],
+        Ok(RateStep {
+            exponents: factors::table()[factor as usize - 1],
         })
     }
+}
 
+// The rate as a numerator over a denominator.
+impl fmt::Display for RateStep {
+    ghost output = { λ step. Some (words (worth step)) };
+
+    fn fmt<W: fmt::Write>(&self, f: &mut fmt::Formatter<W>) -> fmt::Result {
+        match self.ratio() {
+            Ok((top, bottom)) => write!(f, "{top}/{bottom}"),
+            Err(overflow) => overflow.fmt(f),
+        }
+    }
+}
+
+impl RateStep {
     // The rate as a numerator and a denominator without common factor.
     pub fn ratio(&self) -> Result<(u32, u32), Overflow>
         ensures { Ratio (worth self.now) result }
@@ -50,11 +92,8 @@ impl RateStep {
     fn measure_of(first: &RateStep, rest: &[RateStep]) -> RateStep
         ensures { Measure (worth first.now ∷ map worth rest.now) (worth result) }
     {
-        let mut common = *first;
-        for step in rest {
-            common = common.measure(step);
-        }
-        common
+        rest.iter()
+            .fold(*first, |common, step| common.measure(step))
     }
 
     // The least factor that makes every rate a whole number; none where there are no rates.

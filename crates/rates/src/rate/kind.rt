@@ -1,11 +1,7 @@
 // Rate steps are a kind of step.
+ghost use Rattle.fractions.proofs.Laws.{comm};
 ghost use Rattle.rates.specs.Rates.{rates, worth};
-ghost use Rattle.std.proofs.Common.{lit≤};
-ghost use Rattle.fractions.proofs.Laws.{same_refl, same_sym, same_trans, mul_same, inv_same, assoc, unit_left, comm};
-ghost use Rattle.fractions.proofs.Laws;
-ghost use Rattle.fractions.proofs.Sizes.{size_same, size_one, size_inv, size_mul};
-ghost use Rattle.rates.specs.Listed.{listed};
-ghost use Rattle.rates.specs.Primal.{all_prime};
+ghost use Rattle.rates.specs.Lawful.{rate_laws};
 
 use super::RateStep;
 use crate::exponents;
@@ -20,30 +16,18 @@ impl Step for RateStep {
 
     ghost meaning = { worth };
 
-    ghost lawful = { record {
-      rfl = same_refl;
-      swap = same_sym;
-      join = same_trans;
-      mul_same = λ x y z w p q. mul_same x y z w p q;
-      inv_same = inv_same;
-      assoc = assoc;
-      left = unit_left;
-      inverse = Laws.inverse;
-      size_same = size_same listed all_prime;
-      size_one = size_one listed;
-      size_inv = size_inv listed;
-      size_mul = size_mul listed all_prime;
-      small = lit≤ tt;
-    } };
+    ghost lawful = { rate_laws };
 
     ghost commutes = { comm };
 
+    #[tactic(auto, unfolding(fractions::specs::Exponents::norm))]
     fn unit() -> RateStep {
         RateStep {
             exponents: [0; COUNT],
         }
     }
 
+    #[tactic(auto, using(crate::proofs::Worth::size_rate, crate::proofs::Worth::rate_add, fractions::proofs::Norms::norm_add))]
     fn compose(&self, other: &RateStep) -> Option<RateStep> {
         if self.size() + other.size() > SIZE_LIMIT {
             return None;
@@ -53,6 +37,7 @@ impl Step for RateStep {
         })
     }
 
+    #[tactic(auto, using(crate::proofs::Worth::rate_neg, fractions::proofs::Norms::norm_neg))]
     fn inverse(&self) -> RateStep {
         RateStep {
             exponents: exponents::opposites(&self.exponents),
@@ -60,9 +45,10 @@ impl Step for RateStep {
     }
 
     fn equals(&self, other: &RateStep) -> bool {
-        self.exponents == other.exponents
+        self == other
     }
 
+    #[tactic(auto, using(crate::proofs::Worth::size_rate))]
     fn size(&self) -> u32 {
         exponents::largest(&self.exponents)
     }
