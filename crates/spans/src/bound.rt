@@ -1,5 +1,6 @@
 // A bound of a whole span.
-ghost use Rattle.std.specs.Prelude.{◌≡◌};
+ghost use Rattle.spans.specs.declared.bound.Bound.TheVariants.{Bottom, Top};
+ghost use Rattle.std.specs.Prelude.{MatchOption, ℤ, ◌≡◌};
 ghost use Rattle.spans.specs.Bounds.{bound_at, low_bound, high_bound, number, as_real};
 ghost use Rattle.spans.specs.Combining.{both_numbers};
 
@@ -41,6 +42,28 @@ impl Bound {
         ensures { result ≡ both_numbers self other }
     {
         Some((self.number()?, other.number()?))
+    }
+
+    // The low bound that two bounds make by f, the bottom unless both are numbers.
+    pub(crate) fn made_low<F: FnOnce(i32, i32) -> i64>(self, other: Bound, f: F) -> Bound
+        requires { F.IsAlwaysCallable f }
+        ensures { MatchOption (both_numbers self other) (result ≡ Bottom) (λ q. (z : ℤ) × F.post f q.0 q.1 z × (result ≡ low_bound z)) }
+    {
+        match self.numbers(other) {
+            Some((x, y)) => Bound::low(f(x, y)),
+            None => Bound::Bottom,
+        }
+    }
+
+    // The high bound in the same way, the top unless both are numbers.
+    pub(crate) fn made_high<F: FnOnce(i32, i32) -> i64>(self, other: Bound, f: F) -> Bound
+        requires { F.IsAlwaysCallable f }
+        ensures { MatchOption (both_numbers self other) (result ≡ Top) (λ q. (z : ℤ) × F.post f q.0 q.1 z × (result ≡ high_bound z)) }
+    {
+        match self.numbers(other) {
+            Some((x, y)) => Bound::high(f(x, y)),
+            None => Bound::Top,
+        }
     }
 
     // At the number, or another bound where it is below 32 bits or above them.

@@ -54,7 +54,6 @@ impl WholeSpan {
     }
 
     // The low and the high bound of what the operation makes. The operation is a value that a patch gives: so no closure.
-    // (Each sum and difference is a chain of its own: a function over the operator would need clauses on it.)
     #[tactic(auto, using(crate::proofs::Order::derived))]
     fn bounds(self, operation: Operation, other: WholeSpan) -> (Bound, Bound)
         ensures low { result.0 ≡ whole_low operation self.low self.high other.low other.high }
@@ -62,24 +61,16 @@ impl WholeSpan {
     {
         match operation {
             Operation::Sum => (
-                self.low.numbers(other.low).map_or(
-                    Bound::Bottom,
-                    |(x, y)| Bound::low(i64::from(x) + i64::from(y)),
-                ),
-                self.high.numbers(other.high).map_or(
-                    Bound::Top,
-                    |(x, y)| Bound::high(i64::from(x) + i64::from(y)),
-                ),
+                self.low
+                    .made_low(other.low, |x, y| i64::from(x) + i64::from(y)),
+                self.high
+                    .made_high(other.high, |x, y| i64::from(x) + i64::from(y)),
             ),
             Operation::Difference => (
-                self.low.numbers(other.high).map_or(
-                    Bound::Bottom,
-                    |(x, y)| Bound::low(i64::from(x) - i64::from(y)),
-                ),
-                self.high.numbers(other.low).map_or(
-                    Bound::Top,
-                    |(x, y)| Bound::high(i64::from(x) - i64::from(y)),
-                ),
+                self.low
+                    .made_low(other.high, |x, y| i64::from(x) - i64::from(y)),
+                self.high
+                    .made_high(other.low, |x, y| i64::from(x) - i64::from(y)),
             ),
             Operation::Product => self.product(other),
             Operation::Quotient => (Bound::Bottom, Bound::Top),
