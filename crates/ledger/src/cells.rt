@@ -15,8 +15,7 @@ pub struct Cell<S> {
 impl<S: Step> Cell<S> {
     // A cell to lend to a ledger, which overwrites it.
     pub fn blank() -> Cell<S>
-        ensures root { result.root ≡ 0 }
-        ensures step { S.kind.same (S.meaning result.step) S.kind.one }
+        ensures { Blank S.kind S.meaning result }
     {
         Cell {
             root: 0,

@@ -26,6 +26,11 @@ meeting w r (whole al ah) (real bl bh) = r (as_real al) (as_real ah) bl bh
 meeting w r (real al ah) (whole bl bh) = r al ah (as_real bl) (as_real bh)
 meeting w r (real al ah) (real bl bh) = r al ah bl bh
 
+-- a range, turned real
+abbrev pub turned : Range → Range
+turned (whole l h) = real (as_real l) (as_real h)
+turned (real l h) = real l h
+
 abbrev pub combined : Operation → Range → Range → Range
 combined op =
     meeting

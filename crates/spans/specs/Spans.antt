@@ -3,15 +3,23 @@ use Rattle.std.specs.Prelude.{◌≡◌, ℕ, List, true, false, Option, MatchOp
 use Rattle.std.specs.Float.{binary64}
 use Rattle.spans.specs.declared.kind.Kind.{Kind}
 use Rattle.spans.specs.declared.kind.Kind.TheVariants as kind
+use Rattle.spans.specs.declared.real.RealSpan.{RealSpan}
+use Rattle.spans.specs.declared.whole.WholeSpan.{WholeSpan}
 use Rattle.spans.specs.declared.row.SpanRow.{SpanRow}
 use Rattle.spans.specs.declared.row.SpanRow.TheVariants as row
 use Rattle.spans.specs.declared.span.Span.{Span}
 use Rattle.spans.specs.declared.span.Span.TheVariants as span
 use Rattle.spans.specs.Ranges.{Range, whole, real, sound}
 
+abbrev pub whole_range : WholeSpan → Range
+whole_range s = whole s.low s.high
+
+abbrev pub real_range : RealSpan → Range
+real_range s = real s.low s.high
+
 abbrev pub range : Span → Range
-range (span.Whole s) = whole s.low s.high
-range (span.Real s) = real s.low s.high
+range (span.Whole s) = whole_range s
+range (span.Real s) = real_range s
 
 -- a row holds real bounds as bit patterns
 abbrev pub row_range : SpanRow → Range

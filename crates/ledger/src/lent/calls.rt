@@ -39,7 +39,7 @@ impl<'a, S: Step> Ledger<'a, S> {
         }
     }
 
-    // (Two points are two numbers in every call: a pair would be built for it and taken apart at once.)
+    // Refuses unless both are points. (Two points are two numbers in every call: a pair would be built and taken apart at once.)
     fn both_are_points(&self, a: usize, b: usize) -> Result<(), Fault>
         ensures { MatchResult result (λ _. Both self.now.len a b) (λ e. (e ≡ NoPoint a b) × (Both self.now.len a b → ⊥)) }
     {

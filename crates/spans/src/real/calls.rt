@@ -3,7 +3,8 @@ ghost use Rattle.std.specs.Prelude.{◌≡◌, true, false, MatchOption, from_bi
 ghost use Rattle.std.specs.Float.{float_min, float_max, inf, binary64};
 ghost use Rattle.spans.specs.Bounds.{as_real};
 ghost use Rattle.spans.specs.Combining.{real_low, real_high};
-ghost use Rattle.spans.specs.Ranges.{within, holds_zero, sound, real};
+ghost use Rattle.spans.specs.Ranges.{within, holds_zero, sound, real, turned};
+ghost use Rattle.spans.specs.Spans.{real_range, whole_range};
 
 use super::RealSpan;
 use crate::operation::Operation;
@@ -15,7 +16,7 @@ const MINUS_ZERO: u64 = 0x8000_0000_0000_0000;
 
 // A whole span, turned real.
 impl From<WholeSpan> for RealSpan {
-    ghost from_gives = { λ span result. (result.low ≡ as_real span.low) × (result.high ≡ as_real span.high) };
+    ghost from_gives = { λ span result. real_range result ≡ turned (whole_range span) };
 
     #[tactic(auto, using(crate::proofs::Sound::turned_sound))]
     fn from(span: WholeSpan) -> RealSpan {
