@@ -28,7 +28,7 @@ short_is (e ∷ es) t =
     omega arith
 
 -- what the test says of a row
-record Row (n : ℕ) (es : List ℤ) : Type 0 where
+pub record Row (n : ℕ) (es : List ℤ) : Type 0 where
   pub full : length es ≡ length listed
   pub means : (h : 0 < n) → same (rate es) (whole n h)
   pub small : norm es ≤ largest_tie
@@ -49,7 +49,7 @@ row_is n es t =
     }
 
 -- row n, counted from 1
-row_of : (rows : List (List ℤ)) → T (tabled 1 rows) → (n : ℕ) (z : List ℤ) → 0 < n → n ≤ length rows → Row n (get_or rows (n - 1) z)
+pub row_of : (rows : List (List ℤ)) → T (tabled 1 rows) → (n : ℕ) (z : List ℤ) → 0 < n → n ≤ length rows → Row n (get_or rows (n - 1) z)
 row_of rows t n z h k =
     let i : ℕ = n - 1 in
     let s : 1 + i ≡ n = omega arith in

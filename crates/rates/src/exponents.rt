@@ -49,6 +49,14 @@ pub(crate) fn largest(exponents: &[i32; COUNT]) -> u32
     sizes.max().unwrap_or(0)
 }
 
+// What the function gives of each exponent. (The array's own `map` goes through an iterator by value, and takes about ten times as long.)
+fn each<F: Fn(i32) -> i32>(exponents: &[i32; COUNT], turn: F) -> [i32; COUNT]
+    requires { EachIndex exponents.now (λ i. F.pre turn (get_or exponents.now i (pos 0))) }
+    ensures { EachIndex exponents.now (λ i. F.post turn (get_or exponents.now i (pos 0)) (get_or result i (pos 0))) }
+{
+    array::from_fn(|i| turn(exponents[i]))
+}
+
 // What the function gives of each two exponents of one prime.
 fn joined<F: Fn(i32, i32) -> i32>(
     left: &[i32; COUNT],
@@ -72,7 +80,7 @@ pub(crate) fn opposites(exponents: &[i32; COUNT]) -> [i32; COUNT]
     requires { norm exponents.now ≤ limit }
     ensures { result ≡ negated exponents.now }
 {
-    exponents.map(opposite)
+    each(exponents, opposite)
 }
 
 // The lesser exponent of each prime.
