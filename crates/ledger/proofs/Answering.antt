@@ -100,3 +100,7 @@ module _ (K : Kind) {S : Type 0} (mean : S → K.Element) where
             let t' = tells_same K mean cs n (cell n u) ts t in
             tells_point K mean (set cs n (cell n u)) n ts t' (new_point K L mean (set cs n (cell n u)) n t'.kept (omega arith) few own (rw step unit));
       }
+
+  -- a ledger that tells of some ties does so with a point more
+  pub some_point : (cs : List (Cell S)) (n : ℕ) → Lawful K → (u : S) → n < length cs → n < most_points → K.same (mean u) K.one → ∥ TellsSome K mean (holding cs n) ∥₁ → ∥ TellsSome K mean (holding (set cs n (cell n u)) (n + 1)) ∥₁
+  some_point cs n L u room few unit = some_pointed _ _ _ (pointed_ok cs n L u room few unit)

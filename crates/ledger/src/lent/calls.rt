@@ -23,6 +23,7 @@ impl<'a, S: Step> Ledger<'a, S> {
     }
 
     // Adds a point, and answers its number.
+    #[tactic(auto, using(crate::proofs::Unused::some_same, crate::proofs::Answering::some_point, crate::proofs::Answering::pointed_ok))]
     pub fn point(&mut self) -> Result<usize, Fault>
         ensures { Pointed S.kind S.meaning (contents self.old) result (contents self.new) }
     {
