@@ -1,5 +1,6 @@
 -- The turns of the loop that multiplies powers. Assumes nothing.
 use Rattle.std.proofs.Common.{◌≡◌, ℕ, ◌*◌, ◌^◌, ◌<◌, ◌≤◌, List, [], ◌∷◌, map, ℤ, Option, Some, None, Bor, Iter, sym, refl, ap, ◌∙◌, ap₂, mul_assoc, mul_comm, mul-one, zero, suc, arith}
+use native.Mathlib.Nat.{pow-zero}
 use Rattle.std.proofs.Math.Nat.{le-mul_of_pos_right}
 use mathlib.Core.Logic.{◌⊎◌, inl, inr}
 use borrow.Author.Differences.{up}
@@ -26,6 +27,12 @@ module _ (s t : Zip (Iter ℕ) (Iter ℤ)) (r : Option (Bor ℕ × Bor ℤ)) (p 
       let z = Zip-more s t r p some step in
       let e : p.0.now ^ x * left t ≡ left s = ap (λ y. p.0.now ^ y * left t) part ∙ sym (ap₂ product z.0 (ap (map up) z.1)) in
       mul_assoc a (p.0.now ^ x) (left t) ∙ ap (λ y. a * y) e ∙ all
+
+  -- the power of an exponent that is 0 changes nothing
+  pub turn_none : x ≡ 0 → a * left t ≡ n
+  turn_none z =
+      let e : a * p.0.now ^ x ≡ a = ap (λ y. a * p.0.now ^ y) z ∙ ap (λ y. a * y) (pow-zero p.0.now) ∙ mul-one a in
+      ap (λ y. y * left t) (sym e) ∙ turn
 
   -- neither the power nor the product so far is larger than the whole
   pub turn_fits : 0 < n → a * p.0.now ^ x ≤ n

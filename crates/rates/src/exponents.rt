@@ -103,8 +103,12 @@ pub(crate) fn product(exponents: &[i32; COUNT]) -> Option<u32>
 {
     let mut product: u64 = 1;
     for (prime, exponent) in PRIMES.iter().zip(exponents) {
-        let power = prime.checked_pow(positive_part(*exponent))?;
-        product = product.checked_mul(power)?;
+        let times = positive_part(*exponent);
+        // most exponents are 0, and their powers change nothing
+        if times > 0 {
+            let power = prime.checked_pow(times)?;
+            product = product.checked_mul(power)?;
+        }
     }
     bounded(product)
 }
