@@ -53,7 +53,7 @@ abbrev pub after : (K : Kind) → List (Tie K) → Tie K → Result (Unit {0}) F
 after K ts t (Ok u) = t ∷ ts
 after K ts t (Err e) = ts
 
--- between, where there are n points, whatever was tied before
+-- between and ask, where there are n points, whatever was tied before
 pub record AskChecks {A : Type 0} (n a b : ℕ) (r : Result A Fault) : Type 0 where
   -- 5 exactly when one of the two is no point
   pub outside : Exactly (code r ≡ 5) (Both n a b → ⊥)
@@ -68,7 +68,7 @@ told (Err e) out = Err e
 
 -- of any kind and meaning: what follows knows nothing of the trait that has them
 module _ (K : Kind) {S : Type 0} (mean : S → K.Element) where
-  -- between, where the ties ts were accepted before
+  -- between, and what an ask tells, where the ties ts were accepted before
   pub record AskVerdict (n : ℕ) (ts : List (Tie K)) (a b : ℕ) (r : Result (Option S) Fault) : Type 0 where
     -- whether a chain of ties joins the points
     pub yes : Both n a b → Exactly ((s : S) × (r ≡ Ok (Some s))) (Linked K ts a b)
